@@ -1,0 +1,3 @@
+// What a score is and what it means: definitions, and the plain types that code and definitions share.
+pub mod node;
+pub mod numbers;

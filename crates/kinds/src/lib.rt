@@ -1,0 +1,4 @@
+// Kinds of primitive: the interface that a rack is generic over, and the kinds at hand.
+pub mod clip;
+pub mod kind;
+pub mod note;

@@ -1,0 +1,6 @@
+pub mod Files
+pub mod Items
+pub mod Drafts
+pub mod Refusals
+pub mod Loads
+pub mod Theorems

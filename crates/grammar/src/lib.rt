@@ -1,0 +1,4 @@
+// The score file: its grammar, its fixed texts, and the nodes of a term as they stand in a file.
+pub mod draft;
+pub mod item;
+pub mod lines;

@@ -1,4 +1,5 @@
 // The score file: its grammar, its fixed texts, and the nodes of a term as they stand in a file.
 pub mod draft;
+pub mod head;
 pub mod item;
 pub mod lines;

@@ -1,0 +1,3 @@
+// Scores as rows of nodes in preorder, over any kind of primitive.
+pub mod span;
+pub mod spans;

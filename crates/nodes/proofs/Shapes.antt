@@ -1,8 +1,10 @@
 -- That a row is one score within the limits does not depend on what its primitives are.
 use mathlib.Core.Path.{_≡_, refl, sym, ap, _∙_, subst}
+use mathlib.Core.Bool.{Bool, true, _&&_}
 use mathlib.Core.List.{List, [], _∷_, _++_, map}
 use Prim.Native.Nat.{ℕ, suc, _+_, _≤_, max}
 use native.Mathlib.Omega.{arith}
+use lib.Dec.{leb, eqb}
 use lib.ListN.{length}
 use Rattle.std.proofs.shelf.Lists.{append-assoc, append-nil, length-append, length-map}
 use Rattle.algebra.specs.declared.numbers.Numbers.{Numbers}
@@ -10,7 +12,7 @@ use Rattle.algebra.specs.Score.{Score, Score.rest, Score.primitive, Score.seque
 use Rattle.algebra.specs.declared.node.Node.{Node}
 use Rattle.algebra.specs.declared.node.Node.the-variants.{Rest, Primitive, Sequence, Parallel}
 use Rattle.algebra.specs.Layout.{seen, view, preorder, joined, stack, foremost, score-of}
-use Rattle.nodes.specs.Held.{bare, Held, blank, outline, HeldOutline}
+use Rattle.nodes.specs.Held.{bare, Held, blank, outline, heldOutline}
 use Rattle.nodes.proofs.Parts.{length-preorder, stack-preorder}
 
 abbrev clear : Score → Score
@@ -70,53 +72,69 @@ counted (Primitive p ∷ xs) = let (most, full) = counted xs in (omega (arith, m
 counted (Sequence ∷ xs) = let (most, full) = counted xs in paired Sequence sequence (λ _ _. refl) xs (stack xs) most full
 counted (Parallel ∷ xs) = let (most, full) = counted xs in paired Parallel parallel (λ _ _. refl) xs (stack xs) most full
 
-single : (ss : List Score) (u : Score) → map clear ss ≡ u ∷ [] → (t : Score) × (ss ≡ t ∷ []) × (clear t ≡ u)
-single [] u e = absurd (omega (arith, ap length e))
-single (t ∷ []) u e = (t, refl, cc)
-single (t ∷ (s ∷ ss)) u e = absurd (omega (arith, ap length e))
-
-pub held-any : {P : Type 0} (f g : P → Numbers) (row : List (Node P)) → Held (view f row) → Held (view g row)
-held-any f g row h =
-    let xs = view f row in
-    let ys = view g row in
-    let one : stack xs ≡ score-of xs ∷ [] = ap stack (h .whole ∙ sym (append-nil (preorder (score-of xs)))) ∙ stack-preorder (score-of xs) [] in
-    let (t, is, like) = single (stack ys) (clear (score-of xs)) (sym (stack-clear g row) ∙ stack-clear f row ∙ ap (map clear) one) in
-    let s : score-of ys ≡ t = ap foremost is in
-    let a = clear-like t in
-    let b = clear-like (score-of xs) in
-    let n : nodes t ≡ nodes (score-of xs) = sym (a .nodes-same) ∙ ap nodes like ∙ b .nodes-same in
-    let p : primitives t ≡ primitives (score-of xs) = sym (a .primitives-same) ∙ ap primitives like ∙ b .primitives-same in
-    let q : bare t ≡ bare (score-of xs) = sym (a .bare-same) ∙ ap bare like ∙ b .bare-same in
-    let l : length xs ≡ length ys = length-map row (seen f) ∙ sym (length-map row (seen g)) in
-    let all : rows (stack ys) ≡ preorder t = ap rows is ∙ append-nil (preorder t) in
-    let long : length (rows (stack ys)) ≡ length ys = ap length all ∙ length-preorder t ∙ n ∙ sym (length-preorder (score-of xs)) ∙ sym (ap length (h .whole)) ∙ l in
-    record {
-      whole = counted ys .1 long ∙ all ∙ ap preorder (sym s);
-      small = omega (arith, h .small, l);
-      few = omega (arith, h .few, p, ap primitives s);
-      short = omega (arith, h .short, q, ap bare s);
-    }
-
 lone : (ss : List Score) → length ss ≡ 1 → (t : Score) × (ss ≡ t ∷ [])
 lone [] e = absurd (omega arith)
 lone (t ∷ []) e = (t, refl)
 lone (t ∷ (s ∷ ss)) e = absurd (omega arith)
 
--- from the numbers of the row with blank primitives
-pub held-from : {P : Type 0} (f : P → Numbers) (row : List (Node P)) → length (stack (view (λ _. blank) row)) ≡ 1 → nodes (score-of (view (λ _. blank) row)) ≡ length row
-    → length row ≤ 1023 → primitives (score-of (view (λ _. blank) row)) ≤ 170 → bare (score-of (view (λ _. blank) row)) ≤ 16777215 → Held (view f row)
-held-from f row one full small few short =
-    let ys = view f row in
-    let (t, is) = lone (stack ys) (sym (length-map (stack ys) clear) ∙ sym (ap length (stack-clear f row)) ∙ one) in
-    let s : score-of ys ≡ t = ap foremost is in
-    let b : score-of (view (λ _. blank) row) ≡ clear t = ap foremost (stack-clear f row ∙ ap (map clear) is) in
-    let a = clear-like t in
-    let l : length ys ≡ length row = length-map row (seen f) in
-    let all : rows (stack ys) ≡ preorder t = ap rows is ∙ append-nil (preorder t) in
-    let long : length (rows (stack ys)) ≡ length ys = ap length all ∙ length-preorder t ∙ sym (a .nodes-same) ∙ sym (ap nodes b) ∙ full ∙ sym l in
-    record {
-      whole = counted ys .1 long ∙ all ∙ ap preorder (sym s);
-      small = omega (arith, small, l);
-      few = omega (arith, few, ap primitives b, a .primitives-same, ap primitives s);
-      short = omega (arith, short, ap bare b, a .bare-same, ap bare s);
-    }
+-- what heldOutline tests
+pub record Outlined {P : Type 0} (row : List (Node P)) (n m : ℕ) : Type 0 where
+  pub one : length (stack (outline row)) ≡ 1
+  pub long : length row ≡ n
+  pub full : nodes (score-of (outline row)) ≡ n
+  pub small : n ≤ 1023
+  pub count : primitives (score-of (outline row)) ≡ m
+  pub few : m ≤ 170
+  pub short : bare (score-of (outline row)) ≤ 16777215
+
+pub outlined : {P : Type 0} (row : List (Node P)) (n m : ℕ) → heldOutline row n m ≡ true → Outlined row n m
+outlined row n m h = grind arith
+
+pub outline-from : {P : Type 0} (row : List (Node P)) (n m : ℕ) → Outlined row n m → heldOutline row n m ≡ true
+outline-from row n m o = grind arith
+
+module _ {P : Type 0} (f : P → Numbers) (row : List (Node P)) (n m : ℕ) where
+  -- the row by its primitives' numbers
+  pub record Shown : Type 0 where
+    pub held : Held (view f row)
+    pub full : nodes (score-of (view f row)) ≡ n
+    pub count : primitives (score-of (view f row)) ≡ m
+
+  pub shown-from : Outlined row n m → Shown
+  shown-from o =
+      let ys = view f row in
+      let (t, is) = lone (stack ys) (sym (length-map (stack ys) clear) ∙ sym (ap length (stack-clear f row)) ∙ o .one) in
+      let s : score-of ys ≡ t = ap foremost is in
+      let b : score-of (outline row) ≡ clear t = ap foremost (stack-clear f row ∙ ap (map clear) is) in
+      let a = clear-like t in
+      let l : length ys ≡ length row = length-map row (seen f) in
+      let all : rows (stack ys) ≡ preorder t = ap rows is ∙ append-nil (preorder t) in
+      let same : nodes t ≡ n = sym (a .nodes-same) ∙ sym (ap nodes b) ∙ o .full in
+      let long : length (rows (stack ys)) ≡ length ys = ap length all ∙ length-preorder t ∙ same ∙ sym (o .long) ∙ sym l in
+      record {
+        held = record {
+          whole = counted ys .1 long ∙ all ∙ ap preorder (sym s);
+          small = omega (arith, o .small, o .long, l);
+          few = omega (arith, o .few, o .count, ap primitives b, a .primitives-same, ap primitives s);
+          short = omega (arith, o .short, ap bare b, a .bare-same, ap bare s);
+        };
+        full = ap nodes s ∙ same;
+        count = omega (arith, o .count, ap primitives b, a .primitives-same, ap primitives s);
+      }
+
+  -- a score's own nodes pass the tests
+  pub outlined-from : (s : Score) → view f row ≡ preorder s → nodes s ≡ n → n ≤ 1023 → primitives s ≡ m → m ≤ 170 → bare s ≤ 16777215 → Outlined row n m
+  outlined-from s e full small count few short =
+      let one : stack (view f row) ≡ s ∷ [] = ap stack (e ∙ sym (append-nil (preorder s))) ∙ stack-preorder s [] in
+      let cleared : stack (outline row) ≡ clear s ∷ [] = stack-clear f row ∙ ap (map clear) one in
+      let b : score-of (outline row) ≡ clear s = ap foremost cleared in
+      let a = clear-like s in
+      record {
+        one = ap length cleared;
+        long = sym (length-map row (seen f)) ∙ ap length e ∙ length-preorder s ∙ full;
+        full = ap nodes b ∙ a .nodes-same ∙ full;
+        small = small;
+        count = ap primitives b ∙ a .primitives-same ∙ count;
+        few = few;
+        short = omega (arith, short, ap bare b, a .bare-same);
+      }

@@ -1,7 +1,9 @@
 -- Rows of nodes that are one score.
 use mathlib.Core.Path.{_≡_}
+use mathlib.Core.Bool.{Bool, _&&_}
 use mathlib.Core.List.{List}
 use Prim.Native.Nat.{ℕ, _+_, _≤_, max}
+use lib.Dec.{leb, eqb}
 use lib.ListN.{length}
 use Rattle.algebra.specs.declared.numbers.Numbers.{Numbers}
 use Rattle.algebra.specs.declared.node.Node.{Node}
@@ -34,8 +36,8 @@ blank = four 0 0 0 0
 abbrev pub outline : {P : Type 0} → List (Node P) → List (Node Numbers)
 outline row = view (λ _. blank) row
 
--- The same of a row of any kind, in equations and orders of numbers: one score, of some nodes and primitives.
-abbrev pub HeldOutline : {P : Type 0} → List (Node P) → ℕ → ℕ → Type 0
-HeldOutline row n m =
-    (length (stack (outline row)) ≡ 1) × (length row ≡ n) × (nodes (score-of (outline row)) ≡ n) × (n ≤ 1023)
-    × (primitives (score-of (outline row)) ≡ m) × (m ≤ 170) × (bare (score-of (outline row)) ≤ 16777215)
+-- Whether a row of any kind is one score of n nodes and m primitives, within those limits.
+abbrev pub heldOutline : {P : Type 0} → List (Node P) → ℕ → ℕ → Bool
+heldOutline row n m =
+    let s = score-of (outline row) in
+    eqb (length (stack (outline row))) 1 && (eqb (length row) n && (eqb (nodes s) n && (leb n 1023 && (eqb (primitives s) m && (leb m 170 && leb (bare s) 16777215)))))

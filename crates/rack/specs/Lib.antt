@@ -1,0 +1,4 @@
+pub mod Places
+pub mod Shelves
+pub mod Checks
+pub mod Calls

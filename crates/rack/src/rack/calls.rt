@@ -1,0 +1,53 @@
+// The calls on a rack.
+ghost use mathlib.Core.Path.{_≡_};
+ghost use lib.ListN.{replicate};
+ghost use Rattle.std.specs.declared.option.Option.the-variants.{None};
+ghost use Rattle.rack.specs.Places.{number};
+ghost use Rattle.rack.specs.Shelves.{shelf};
+ghost use Rattle.rack.specs.Calls.{tellAnswer, clearAnswer, cleared};
+use crate::place::Place;
+use crate::rack::Rack;
+use crate::row::Row;
+use algebra::node::Node;
+use kinds::kind::Kind;
+use refusals::refusal::Refusal;
+
+impl<'a, K: Kind> Rack<'a, K> {
+    // A rack with a place for each 1,023 of the nodes, up to 8, all empty.
+    pub fn new(nodes: &'a mut [Node<K>]) -> Rack<'a, K>
+        ensures { λ r. ⌜ shelf (K·Kind .numbersOf) r ≡ replicate (number (now (nodes .entry))) None ⌝ }
+    {
+        let empty = Place {
+            nodes: 0,
+            primitives: 0,
+        };
+        Rack {
+            row: Row { nodes },
+            places: [empty; 8],
+        }
+    }
+
+    // The length of the score at a place, and how many nodes and primitives it has.
+    pub fn tell(&self, place: u32) -> Result<(u32, u32, u32), Refusal>
+        ensures { λ r. ⌜ r ≡ tellAnswer (K·Kind .model) (shelf (K·Kind .numbersOf) (now (self .entry))) place ⌝ }
+    {
+        self.known(place)?;
+        self.holding(place)?;
+        let noted = self.places[place as usize];
+        Ok((self.length(place), noted.nodes, noted.primitives))
+    }
+
+    // Empties a place that holds a score.
+    pub fn clear(&mut self, place: u32) -> Result<(), Refusal>
+        ensures answer { λ r. ⌜ r ≡ clearAnswer (shelf (K·Kind .numbersOf) (now (self .entry))) place ⌝ }
+        ensures after { λ r. ⌜ shelf (K·Kind .numbersOf) (now (self .exit)) ≡ cleared r (shelf (K·Kind .numbersOf) (now (self .entry))) place ⌝ }
+    {
+        self.known(place)?;
+        self.holding(place)?;
+        self.places[place as usize] = Place {
+            nodes: 0,
+            primitives: 0,
+        };
+        Ok(())
+    }
+}

@@ -1,0 +1,3 @@
+pub mod Tried
+pub mod Counts
+pub mod Made

@@ -1,3 +1,4 @@
 pub mod Tried
 pub mod Counts
 pub mod Made
+pub mod Checks

@@ -1,3 +1,6 @@
 // What a reading handed on, checked for a kind and written as nodes of the kind.
+pub mod checking;
 mod counting;
 mod legality;
+mod measuring;
+pub mod placing;

@@ -6,7 +6,7 @@ use lib.ListN.{drop}
 use Rattle.std.proofs.shelf.Lists.{at-drop-all}
 use Rattle.grammar.specs.Loads.{isPrimitive, excess}
 use Rattle.loading.specs.Counts.{primitiveItems}
-use Rattle.loading.proofs.Steps.{here, no-node, no-primitive, one-primitive, one-other, counted-primitive, counted-other}
+use Rattle.loading.proofs.Steps.{item-at, no-node, no-primitive, one-primitive, one-other, counted-primitive, counted-other}
 use Rattle.loading.proofs.counting.count_primitives.Needs as need
 use Rattle.loading.proofs.counting.count_primitives.Needs.{then-is-primitive·else-count-eq-PRIMITIVES, else-is-primitive}
 
@@ -16,7 +16,7 @@ returns-then-at-eq-NODES c =
 
 pub returns-then-count-eq-PRIMITIVES : need.returns-then-count-eq-PRIMITIVES
 returns-then-count-eq-PRIMITIVES c =
-    let e : isPrimitive (here (c .args .items .now) (c .loop-at .at) (c .loop-at-test .taken) .node) ≡ true = cc in
+    let e : isPrimitive (item-at (c .args .items .now) (c .loop-at .at) .node) ≡ true = cc in
     (_, sym (c .loop-at .inv .3) ∙ no-primitive (c .args .items .now) (c .loop-at .at) (c .loop-at-test .taken) _ _ e (omega arith), refl)
 
 pub loop-at-again : need.loop-at-again
@@ -25,7 +25,7 @@ loop-at-again c =
     let at = c .loop-at .at in
     let count = c .loop-at .count in
     let h = c .loop-at-test .taken in
-    let node = here is at h .node in
+    let node = item-at is at .node in
     let next : 1023 - at - 1 ≡ 1023 - (at + 1) = omega arith in
     elim (c .if-is-primitive .came) [
       then-is-primitive·else-count-eq-PRIMITIVES w ↦

@@ -1,14 +1,13 @@
 -- What a file gives, from what was found of its head and its first items, one check after the other.
-use mathlib.Core.Path.{_≡_, refl, sym, ap, _∙_}
-use mathlib.Core.Bool.{true, false}
+use mathlib.Core.Path.{_≡_, sym, ap, _∙_}
 use mathlib.Core.List.{List}
 use Prim.Native.Nat.{ℕ, _<_, _≤_}
 use native.Mathlib.Omega.{arith}
 use lib.Dec.{leb, eqb}
-use lib.ListN.{length, take}
+use lib.ListN.{length}
 use Rattle.std.proofs.shelf.Lists.{length-take, take-all}
 use Rattle.std.proofs.shelf.Tests.{cond-true, cond-false, le-leb, lt-leb, eq-eqb, ne-eqb}
-use Rattle.std.specs.declared.option.Option.the-variants.{Some, None}
+use Rattle.std.specs.declared.option.Option.the-variants.{None}
 use Rattle.std.specs.declared.result.Result.{Result}
 use Rattle.std.specs.declared.result.Result.the-variants.{Ok, Err}
 use Rattle.algebra.specs.Kind.{KindModel}
@@ -25,8 +24,7 @@ use Rattle.grammar.specs.Loads.{excess, illegal, refusedAt, provided, checked}
 use Rattle.nodes.specs.Held.{Whole}
 use Rattle.nodes.specs.Spans.{capped}
 use Rattle.nodes.proofs.Parts.{length-preorder, some-node}
-use Rattle.loading.specs.declared.checking.Loaded.{Loaded}
-use Rattle.loading.specs.Tried.{RefusedAt}
+use Rattle.loading.specs.Offsets.{RefusedAt}
 use Rattle.loading.specs.Counts.{primitiveItems, Counted}
 use Rattle.loading.specs.Checks.{Accepted}
 use Rattle.loading.proofs.Steps.{no-item, item-at}
@@ -70,6 +68,9 @@ module _ (K : KindModel) (f : File) (head : Head) (is : List Item) (describes : 
 
     pub long-is : length is ≡ nodes (f .body)
     long-is = sym (length-nodes is) ∙ ap length laid ∙ length-preorder (f .body)
+
+    pub some-item : 0 < length is
+    some-item = omega (arith, long-is, some-node (f .body))
 
     few : checked K f ≡ kind-check K f
     few = ap (λ o. refusedAt o TooManyInFile (kind-check K f)) (same-excess ∙ counted .room)

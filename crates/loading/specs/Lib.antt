@@ -1,4 +1,4 @@
-pub mod Tried
+pub mod Offsets
 pub mod Counts
 pub mod Made
 pub mod Checks

@@ -3,7 +3,7 @@ ghost use Rattle.std.specs.Results.{Cases};
 ghost use Rattle.grammar.specs.Loads.{isPrimitive, excess};
 ghost use Rattle.refusals.specs.declared.refusal.Refusal.the-variants.{TooManyInFile};
 ghost use Rattle.loading.specs.Counts.{Counted};
-ghost use Rattle.loading.specs.Tried.{RefusedAt};
+ghost use Rattle.loading.specs.Offsets.{RefusedAt};
 use algebra::node::Node;
 use algebra::numbers::Numbers;
 use grammar::item::Item;

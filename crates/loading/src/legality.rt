@@ -6,7 +6,7 @@ ghost use Rattle.algebra.specs.Layout.{seen};
 ghost use Rattle.grammar.specs.Loads.{legalNode, illegal};
 ghost use Rattle.refusals.specs.declared.refusal.Refusal.the-variants.{IllegalNumbers};
 ghost use Rattle.loading.specs.Made.{seenNode, madeNode};
-ghost use Rattle.loading.specs.Tried.{RefusedAt};
+ghost use Rattle.loading.specs.Offsets.{RefusedAt};
 use algebra::node::Node;
 use algebra::numbers::Numbers;
 use grammar::item::Item;

@@ -20,7 +20,10 @@ pub fn measure<K: Kind>(items: &[Item]) -> u32
     requires small { ⌜ length (now items) ≤ 1023 ⌝ }
     ensures { λ r. ⌜ r ≡ capped (score-length (K·Kind .model) (score-of (nodesOf (now (items .entry))))) ⌝ }
 {
-    let mut spans = [Span { nodes: 0, length: 0 }; 1023];
+    let mut spans = [Span {
+        nodes: 0,
+        length: 0,
+    }; 1023];
     for at in (0..items.len()).rev() {
         let node = legal_node_of::<K>(items[at].node);
         let span = Span::at(node, &spans, at);

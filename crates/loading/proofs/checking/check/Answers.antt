@@ -1,5 +1,5 @@
 use Rattle.std.proofs.shelf.Results.{err-from-errBy}
-use Rattle.loading.proofs.Answered.{whole, too-many, illegal-one, too-long, untrue-ticks, untrue-count, accepted}
+use Rattle.loading.proofs.Answered.{whole, some-item, too-many, illegal-one, too-long, untrue-ticks, untrue-count, accepted}
 use Rattle.loading.proofs.checking.check.Needs as need
 
 pub returns-in-Break-primitives : need.returns-in-Break-primitives
@@ -21,6 +21,11 @@ measure-length-requires g c κs =
       whole = whole (g .K·Kind .model) f (c .args .head) (c .args .items .now) d _ (c .in-Continue-primitives .ensures tt);
       small = c .in-Continue-primitives .ensures tt .small;
     }
+
+pub index-items-0 : need.index-items-0
+index-items-0 g c =
+    let (f, d) = c .pre in
+    some-item (g .K·Kind .model) f (c .args .head) (c .args .items .now) d _ (c .in-Continue-primitives .ensures tt)
 
 pub returns-then-length-gt-LENGTH : need.returns-then-length-gt-LENGTH
 returns-then-length-gt-LENGTH g c f d =

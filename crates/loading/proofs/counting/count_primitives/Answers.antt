@@ -1,6 +1,6 @@
-use mathlib.Core.Path.{_≡_, refl, sym, ap, _∙_}
+use mathlib.Core.Path.{_≡_, refl, sym, _∙_}
 use mathlib.Core.Bool.{true, false}
-use Prim.Native.Nat.{ℕ, _+_, _-_, _≤_}
+use Prim.Native.Nat.{_+_, _-_}
 use native.Mathlib.Omega.{arith}
 use lib.ListN.{drop}
 use Rattle.std.proofs.shelf.Lists.{at-drop-all}
@@ -28,16 +28,22 @@ loop-at-again c =
     let node = item-at is at .node in
     let next : 1023 - at - 1 ≡ 1023 - (at + 1) = omega arith in
     elim (c .if-is-primitive .came) [
-      then-is-primitive·else-count-eq-PRIMITIVES w ↦
+      | then-is-primitive·else-count-eq-PRIMITIVES w ↦
           let e : isPrimitive node ≡ true = cc in
-          let fewer : 170 - count - 1 ≡ 170 - c .if-is-primitive .count = omega (arith, w .count-is) in
-          (omega arith, omega (arith, w .count-is), omega (arith, w .count-is, counted-primitive is at h e),
-          (λ i. excess (sym next i) (sym fewer i) (drop (at + 1) is)) ∙ sym (one-primitive is at h _ _ (omega arith) e (omega arith)) ∙ c .loop-at .inv .3)
-    | else-is-primitive w ↦
+          let fewer : 170 - count - 1 ≡ 170 - c .if-is-primitive .count = omega (arith, w .count-is) in (
+            omega arith,
+            omega (arith, w .count-is),
+            omega (arith, w .count-is, counted-primitive is at h e),
+            (λ i. excess (sym next i) (sym fewer i) (drop (at + 1) is)) ∙ sym (one-primitive is at h _ _ (omega arith) e (omega arith)) ∙ c .loop-at .inv .3,
+          )
+      | else-is-primitive w ↦
           let e : isPrimitive node ≡ false = cc in
-          let same : 170 - count ≡ 170 - c .if-is-primitive .count = omega (arith, w .count-is) in
-          (omega arith, omega (arith, w .count-is), omega (arith, w .count-is, counted-other is at h e),
-          (λ i. excess (sym next i) (sym same i) (drop (at + 1) is)) ∙ sym (one-other is at h _ _ (omega arith) e) ∙ c .loop-at .inv .3)
+          let same : 170 - count ≡ 170 - c .if-is-primitive .count = omega (arith, w .count-is) in (
+            omega arith,
+            omega (arith, w .count-is),
+            omega (arith, w .count-is, counted-other is at h e),
+            (λ i. excess (sym next i) (sym same i) (drop (at + 1) is)) ∙ sym (one-other is at h _ _ (omega arith) e) ∙ c .loop-at .inv .3,
+          )
     ]
 
 pub returns : need.returns

@@ -1,53 +1,35 @@
--- That a row is one score within the limits does not depend on what its primitives are.
-use mathlib.Core.Path.{_≡_, refl, sym, ap, _∙_, subst}
+-- Rows that are one score within the limits, by a test that does not look at the primitives' numbers.
+use mathlib.Core.Path.{_≡_, refl, sym, ap, _∙_}
 use mathlib.Core.Bool.{Bool, true, _&&_}
 use mathlib.Core.List.{List, [], _∷_, _++_, map}
-use Prim.Native.Nat.{ℕ, suc, _+_, _≤_, max}
+use Prim.Native.Nat.{ℕ, _+_, _≤_, max}
 use native.Mathlib.Omega.{arith}
 use lib.Dec.{leb, eqb}
 use lib.ListN.{length}
 use Rattle.std.proofs.shelf.Lists.{append-assoc, append-nil, length-append, length-map}
 use Rattle.algebra.specs.declared.numbers.Numbers.{Numbers}
-use Rattle.algebra.specs.Score.{Score, Score.rest, Score.primitive, Score.sequence, Score.parallel, nodes, primitives}
 use Rattle.algebra.specs.declared.node.Node.{Node}
 use Rattle.algebra.specs.declared.node.Node.the-variants.{Rest, Primitive, Sequence, Parallel}
+use Rattle.algebra.specs.Score.{Score, Score.rest, Score.primitive, Score.sequence, Score.parallel, nodes, primitives}
 use Rattle.algebra.specs.Layout.{seen, view, preorder, joined, stack, foremost, score-of}
-use Rattle.nodes.specs.Held.{bare, Held, blank, outline, heldOutline}
+use Rattle.nodes.specs.Held.{bare, Held, blank, outline, heldRow}
 use Rattle.nodes.proofs.Parts.{length-preorder, stack-preorder}
 
-abbrev clear : Score → Score
-clear (rest d) = rest d
-clear (primitive p) = primitive blank
-clear (sequence a b) = sequence (clear a) (clear b)
-clear (parallel a b) = parallel (clear a) (clear b)
+-- what the test says
+pub record Tested (xs : List (Node Numbers)) (n m : ℕ) : Type 0 where
+  pub one : length (stack xs) ≡ 1
+  pub long : length xs ≡ n
+  pub full : nodes (score-of xs) ≡ n
+  pub small : n ≤ 1023
+  pub count : primitives (score-of xs) ≡ m
+  pub few : m ≤ 170
+  pub short : bare (score-of xs) ≤ 16777215
 
-record Like (s t : Score) : Type 0 where
-  pub nodes-same : nodes s ≡ nodes t
-  pub primitives-same : primitives s ≡ primitives t
-  pub bare-same : bare s ≡ bare t
+pub tested : (xs : List (Node Numbers)) (n m : ℕ) → heldRow xs n m ≡ true → Tested xs n m
+tested xs n m h = grind arith
 
-clear-like : (s : Score) → Like (clear s) s
-clear-like (rest d) = record { nodes-same = refl; primitives-same = refl; bare-same = refl }
-clear-like (primitive p) = record { nodes-same = refl; primitives-same = refl; bare-same = refl }
-clear-like (sequence a b) = let x = clear-like a in let y = clear-like b in record { nodes-same = omega arith; primitives-same = omega arith; bare-same = omega arith }
-clear-like (parallel a b) = let x = clear-like a in let y = clear-like b in record { nodes-same = omega arith; primitives-same = omega arith; bare-same = omega arith }
-
-joined-sequence : (ss : List Score) → joined sequence (map clear ss) ≡ map clear (joined sequence ss)
-joined-sequence [] = refl
-joined-sequence (a ∷ []) = refl
-joined-sequence (a ∷ (b ∷ ss)) = refl
-
-joined-parallel : (ss : List Score) → joined parallel (map clear ss) ≡ map clear (joined parallel ss)
-joined-parallel [] = refl
-joined-parallel (a ∷ []) = refl
-joined-parallel (a ∷ (b ∷ ss)) = refl
-
-stack-clear : {P : Type 0} (f : P → Numbers) (row : List (Node P)) → stack (view (λ _. blank) row) ≡ map clear (stack (view f row))
-stack-clear f [] = refl
-stack-clear f (Rest d ∷ row) = ap (λ ss. rest d ∷ ss) (stack-clear f row)
-stack-clear f (Primitive x ∷ row) = ap (λ ss. primitive blank ∷ ss) (stack-clear f row)
-stack-clear f (Sequence ∷ row) = ap (joined sequence) (stack-clear f row) ∙ joined-sequence (stack (view f row))
-stack-clear f (Parallel ∷ row) = ap (joined parallel) (stack-clear f row) ∙ joined-parallel (stack (view f row))
+pub test-from : (xs : List (Node Numbers)) (n m : ℕ) → Tested xs n m → heldRow xs n m ≡ true
+test-from xs n m o = grind arith
 
 -- the nodes of scores, one after the other
 abbrev rows : List Score → List (Node Numbers)
@@ -77,64 +59,92 @@ lone [] e = absurd (omega arith)
 lone (t ∷ []) e = (t, refl)
 lone (t ∷ (s ∷ ss)) e = absurd (omega arith)
 
--- what heldOutline tests
-pub record Outlined {P : Type 0} (row : List (Node P)) (n m : ℕ) : Type 0 where
-  pub one : length (stack (outline row)) ≡ 1
-  pub long : length row ≡ n
-  pub full : nodes (score-of (outline row)) ≡ n
-  pub small : n ≤ 1023
-  pub count : primitives (score-of (outline row)) ≡ m
-  pub few : m ≤ 170
-  pub short : bare (score-of (outline row)) ≤ 16777215
+pub held-from : (xs : List (Node Numbers)) (n m : ℕ) → Tested xs n m → Held xs
+held-from xs n m o =
+    let (t, is) = lone (stack xs) (o .one) in
+    let s : score-of xs ≡ t = ap foremost is in
+    let all : rows (stack xs) ≡ preorder t = ap rows is ∙ append-nil (preorder t) in
+    let long : length (rows (stack xs)) ≡ length xs = ap length all ∙ length-preorder t ∙ sym (ap nodes s) ∙ o .full ∙ sym (o .long) in
+    record {
+      whole = counted xs .1 long ∙ all ∙ ap preorder (sym s);
+      small = omega (arith, o .small, o .long);
+      few = omega (arith, o .few, o .count);
+      short = o .short;
+    }
 
-pub outlined : {P : Type 0} (row : List (Node P)) (n m : ℕ) → heldOutline row n m ≡ true → Outlined row n m
-outlined row n m h = grind arith
+-- a score's own nodes
+pub score-preorder : (s : Score) → score-of (preorder s) ≡ s
+score-preorder s = ap (λ xs. foremost (stack xs)) (sym (append-nil (preorder s))) ∙ ap foremost (stack-preorder s [])
 
-pub outline-from : {P : Type 0} (row : List (Node P)) (n m : ℕ) → Outlined row n m → heldOutline row n m ≡ true
-outline-from row n m o = grind arith
+pub tested-score : (s : Score) → nodes s ≤ 1023 → primitives s ≤ 170 → bare s ≤ 16777215 → Tested (preorder s) (nodes s) (primitives s)
+tested-score s small few short =
+    let is = score-preorder s in
+    record {
+      one = ap (λ xs. length (stack xs)) (sym (append-nil (preorder s))) ∙ ap length (stack-preorder s []);
+      long = length-preorder s;
+      full = ap nodes is;
+      small = small;
+      count = ap primitives is;
+      few = few;
+      short = omega (arith, ap bare is);
+    }
 
-module _ {P : Type 0} (f : P → Numbers) (row : List (Node P)) (n m : ℕ) where
-  -- the row by its primitives' numbers
-  pub record Shown : Type 0 where
-    pub held : Held (view f row)
-    pub full : nodes (score-of (view f row)) ≡ n
-    pub count : primitives (score-of (view f row)) ≡ m
+-- other numbers in the primitives
+module _ (g : Numbers → Numbers) where
+  abbrev renumbered : Score → Score
+  renumbered (rest d) = rest d
+  renumbered (primitive p) = primitive (g p)
+  renumbered (sequence a b) = sequence (renumbered a) (renumbered b)
+  renumbered (parallel a b) = parallel (renumbered a) (renumbered b)
 
-  pub shown-from : Outlined row n m → Shown
-  shown-from o =
-      let ys = view f row in
-      let (t, is) = lone (stack ys) (sym (length-map (stack ys) clear) ∙ sym (ap length (stack-clear f row)) ∙ o .one) in
-      let s : score-of ys ≡ t = ap foremost is in
-      let b : score-of (outline row) ≡ clear t = ap foremost (stack-clear f row ∙ ap (map clear) is) in
-      let a = clear-like t in
-      let l : length ys ≡ length row = length-map row (seen f) in
-      let all : rows (stack ys) ≡ preorder t = ap rows is ∙ append-nil (preorder t) in
-      let same : nodes t ≡ n = sym (a .nodes-same) ∙ sym (ap nodes b) ∙ o .full in
-      let long : length (rows (stack ys)) ≡ length ys = ap length all ∙ length-preorder t ∙ same ∙ sym (o .long) ∙ sym l in
-      record {
-        held = record {
-          whole = counted ys .1 long ∙ all ∙ ap preorder (sym s);
-          small = omega (arith, o .small, o .long, l);
-          few = omega (arith, o .few, o .count, ap primitives b, a .primitives-same, ap primitives s);
-          short = omega (arith, o .short, ap bare b, a .bare-same, ap bare s);
-        };
-        full = ap nodes s ∙ same;
-        count = omega (arith, o .count, ap primitives b, a .primitives-same, ap primitives s);
-      }
+  record Like (s : Score) : Type 0 where
+    nodes-same : nodes (renumbered s) ≡ nodes s
+    primitives-same : primitives (renumbered s) ≡ primitives s
+    bare-same : bare (renumbered s) ≡ bare s
 
-  -- a score's own nodes pass the tests
-  pub outlined-from : (s : Score) → view f row ≡ preorder s → nodes s ≡ n → n ≤ 1023 → primitives s ≡ m → m ≤ 170 → bare s ≤ 16777215 → Outlined row n m
-  outlined-from s e full small count few short =
-      let one : stack (view f row) ≡ s ∷ [] = ap stack (e ∙ sym (append-nil (preorder s))) ∙ stack-preorder s [] in
-      let cleared : stack (outline row) ≡ clear s ∷ [] = stack-clear f row ∙ ap (map clear) one in
-      let b : score-of (outline row) ≡ clear s = ap foremost cleared in
-      let a = clear-like s in
-      record {
-        one = ap length cleared;
-        long = sym (length-map row (seen f)) ∙ ap length e ∙ length-preorder s ∙ full;
-        full = ap nodes b ∙ a .nodes-same ∙ full;
-        small = small;
-        count = ap primitives b ∙ a .primitives-same ∙ count;
-        few = few;
-        short = omega (arith, short, ap bare b, a .bare-same);
-      }
+  like : (s : Score) → Like s
+  like (rest d) = record { nodes-same = refl; primitives-same = refl; bare-same = refl }
+  like (primitive p) = record { nodes-same = refl; primitives-same = refl; bare-same = refl }
+  like (sequence a b) = let x = like a in let y = like b in record { nodes-same = omega arith; primitives-same = omega arith; bare-same = omega arith }
+  like (parallel a b) = let x = like a in let y = like b in record { nodes-same = omega arith; primitives-same = omega arith; bare-same = omega arith }
+
+  joined-sequence : (ss : List Score) → joined sequence (map renumbered ss) ≡ map renumbered (joined sequence ss)
+  joined-sequence [] = refl
+  joined-sequence (a ∷ []) = refl
+  joined-sequence (a ∷ (b ∷ ss)) = refl
+
+  joined-parallel : (ss : List Score) → joined parallel (map renumbered ss) ≡ map renumbered (joined parallel ss)
+  joined-parallel [] = refl
+  joined-parallel (a ∷ []) = refl
+  joined-parallel (a ∷ (b ∷ ss)) = refl
+
+  stack-renumbered : (xs : List (Node Numbers)) → stack (map (seen g) xs) ≡ map renumbered (stack xs)
+  stack-renumbered [] = refl
+  stack-renumbered (Rest d ∷ xs) = ap (λ ss. rest d ∷ ss) (stack-renumbered xs)
+  stack-renumbered (Primitive p ∷ xs) = ap (λ ss. primitive (g p) ∷ ss) (stack-renumbered xs)
+  stack-renumbered (Sequence ∷ xs) = ap (joined sequence) (stack-renumbered xs) ∙ joined-sequence (stack xs)
+  stack-renumbered (Parallel ∷ xs) = ap (joined parallel) (stack-renumbered xs) ∙ joined-parallel (stack xs)
+
+  first-renumbered : (ss : List Score) → foremost (map renumbered ss) ≡ renumbered (foremost ss)
+  first-renumbered [] = refl
+  first-renumbered (s ∷ ss) = refl
+
+  pub test-renumbered : (xs : List (Node Numbers)) (n m : ℕ) → heldRow (map (seen g) xs) n m ≡ heldRow xs n m
+  test-renumbered xs n m =
+      let ys = map (seen g) xs in
+      let is : score-of ys ≡ renumbered (score-of xs) = ap foremost (stack-renumbered xs) ∙ first-renumbered (stack xs) in
+      let one : length (stack ys) ≡ length (stack xs) = ap length (stack-renumbered xs) ∙ length-map (stack xs) renumbered in
+      let long : length ys ≡ length xs = length-map xs (seen g) in
+      let l = like (score-of xs) in
+      let a : nodes (score-of ys) ≡ nodes (score-of xs) = ap nodes is ∙ l .nodes-same in
+      let b : primitives (score-of ys) ≡ primitives (score-of xs) = ap primitives is ∙ l .primitives-same in
+      let c : bare (score-of ys) ≡ bare (score-of xs) = ap bare is ∙ l .bare-same in
+      λ i. eqb (one i) 1 && (eqb (long i) n && (eqb (a i) n && (leb n 1023 && (eqb (b i) m && (leb m 170 && leb (c i) 16777215)))))
+
+-- the outline of a row of a kind, from its view
+pub outline-view : {P : Type 0} (f : P → Numbers) (row : List (Node P)) → outline row ≡ map (seen (λ _. blank)) (view f row)
+outline-view f [] = refl
+outline-view f (Rest d ∷ row) = ap (λ xs. Rest d ∷ xs) (outline-view f row)
+outline-view f (Primitive x ∷ row) = ap (λ xs. Primitive blank ∷ xs) (outline-view f row)
+outline-view f (Sequence ∷ row) = ap (λ xs. Sequence ∷ xs) (outline-view f row)
+outline-view f (Parallel ∷ row) = ap (λ xs. Parallel ∷ xs) (outline-view f row)

@@ -29,15 +29,15 @@ pub record Held (xs : List (Node Numbers)) : Type 0 where
   pub few : primitives (score-of xs) ≤ 170
   pub short : bare (score-of xs) ≤ 16777215
 
--- A row with every primitive's numbers left out.
+-- The row of any kind with every primitive's numbers left out.
 abbrev pub blank : Numbers
 blank = four 0 0 0 0
 
 abbrev pub outline : {P : Type 0} → List (Node P) → List (Node Numbers)
 outline row = view (λ _. blank) row
 
--- Whether a row of any kind is one score of n nodes and m primitives, within those limits.
-abbrev pub heldOutline : {P : Type 0} → List (Node P) → ℕ → ℕ → Bool
-heldOutline row n m =
-    let s = score-of (outline row) in
-    eqb (length (stack (outline row))) 1 && (eqb (length row) n && (eqb (nodes s) n && (leb n 1023 && (eqb (primitives s) m && (leb m 170 && leb (bare s) 16777215)))))
+-- Whether a row is one score of n nodes and m primitives, within the limits. The primitives' numbers do not matter.
+abbrev pub heldRow : List (Node Numbers) → ℕ → ℕ → Bool
+heldRow xs n m =
+    let s = score-of xs in
+    eqb (length (stack xs)) 1 && (eqb (length xs) n && (eqb (nodes s) n && (leb n 1023 && (eqb (primitives s) m && (leb m 170 && leb (bare s) 16777215)))))

@@ -1,2 +1,3 @@
 pub mod Shelves
 pub mod Placing
+pub mod Standing

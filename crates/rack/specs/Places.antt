@@ -5,8 +5,9 @@ use mathlib.Core.List.{List}
 use Prim.Native.Nat.{ℕ, _*_, _/_, _<_, min}
 use lib.Dec.{eqb}
 use lib.ListN.{length, getD, take, drop}
+use Rattle.algebra.specs.declared.numbers.Numbers.{Numbers}
 use Rattle.algebra.specs.declared.node.Node.{Node}
-use Rattle.nodes.specs.Held.{heldOutline}
+use Rattle.nodes.specs.Held.{heldRow, outline}
 use Rattle.rack.specs.declared.place.Place.{Place}
 
 -- One place for each 1,023 nodes, up to 8.
@@ -20,12 +21,13 @@ abbrev pub placeAt : List Place → ℕ → Place
 placeAt places p = getD places p emptyPlace
 
 -- The nodes in use at a place.
-abbrev pub used : {P : Type 0} → List (Node P) → Place → ℕ → List (Node P)
+abbrev pub used : {X : Type 0} → List X → Place → ℕ → List X
 used ns place p = take (place .nodes) (drop (p * 1023) ns)
 
--- Whether the place is empty, or the nodes in use are one score within the limits and what is noted of it is true.
-abbrev pub sound : {P : Type 0} → List (Node P) → Place → ℕ → Bool
-sound ns place p = eqb (place .nodes) 0 || heldOutline (used ns place p) (place .nodes) (place .primitives)
+-- Whether a place is empty, or the nodes in use are one score within the limits and what is noted of it is true.
+abbrev pub sound : List (Node Numbers) → Place → ℕ → Bool
+sound xs place p = eqb (place .nodes) 0 || heldRow (used xs place p) (place .nodes) (place .primitives)
 
+-- Every place of a rack is so.
 abbrev pub AllSound : {P : Type 0} → List (Node P) → List Place → Type 0
-AllSound ns places = (p : ℕ) → p < number ns → sound ns (placeAt places p) p ≡ true
+AllSound ns places = (p : ℕ) → p < number ns → sound (outline ns) (placeAt places p) p ≡ true

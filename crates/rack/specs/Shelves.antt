@@ -19,14 +19,15 @@ use Rattle.rack.specs.Places.{number, placeAt, used}
 abbrev pub Shelf : Type 0
 Shelf = List (Option Score)
 
-abbrev pub heldAt : {P : Type 0} → (P → Numbers) → List (Node P) → Place → ℕ → Option Score
-heldAt f ns place p = cond (eqb (place .nodes) 0) None (Some (score-of (view f (used ns place p))))
+-- What a place holds, by its note.
+abbrev pub heldAt : List (Node Numbers) → Place → ℕ → Option Score
+heldAt xs place p = cond (eqb (place .nodes) 0) None (Some (score-of (used xs place p)))
 
-abbrev pub shelfOf : {P : Type 0} → (P → Numbers) → List (Node P) → List Place → Shelf
-shelfOf f ns places = map (λ p. heldAt f ns (placeAt places p) p) (counting 0 (number ns))
+abbrev pub shelfOf : List (Node Numbers) → List Place → Shelf
+shelfOf xs places = map (λ p. heldAt xs (placeAt places p) p) (counting 0 (number xs))
 
 abbrev pub shelf : {K : Type 0} → (K → Numbers) → Rack K → Shelf
-shelf f rack = shelfOf f (rack .row .nodes .now) (rack .places)
+shelf f rack = shelfOf (view f (rack .row .nodes .now)) (rack .places)
 
 -- What a place holds; nothing where there is no such place.
 abbrev pub at : Shelf → ℕ → Option Score

@@ -1,20 +1,23 @@
 use mathlib.Core.Path.{sym}
 use Prim.Native.Nat.{_<_}
 use native.Mathlib.Omega.{arith}
-use Rattle.rack.specs.Places.{placeAt}
-use Rattle.rack.specs.Shelves.{shelf}
-use Rattle.rack.proofs.Shelves.{holding-yes, holding-no, at-empty, at-full}
+use Rattle.algebra.specs.Layout.{view}
+use Rattle.rack.specs.Places.{number, placeAt}
+use Rattle.rack.specs.Shelves.{shelfOf}
+use Rattle.rack.proofs.Shelves.{holding-yes, holding-no, at-empty, at-full, number-view}
 use Rattle.rack.proofs.rack.Rack.holding.Needs as need
 
 pub returns-then-self-place-eq0 : need.returns-then-self-place-eq0
 returns-then-self-place-eq0 g c =
     let rack = c .args .self .now in
-    let f = g .K·Kind .numbersOf in
-    record { answer = sym (holding-no (shelf f rack) (c .args .place) (at-empty f (rack .row .nodes .now) (rack .places) (c .args .place) (c .pre) (c .if-self-place-eq0 .taken))); held = tt }
+    let xs = view (g .K·Kind .numbersOf) (rack .row .nodes .now) in
+    let h : c .args .place < number xs = omega (arith, number-view (g .K·Kind .numbersOf) (rack .row .nodes .now), c .pre) in
+    record { answer = sym (holding-no (shelfOf xs (rack .places)) (c .args .place) (at-empty xs (rack .places) (c .args .place) h (c .if-self-place-eq0 .taken))); held = tt }
 
 pub returns : need.returns
 returns g c =
     let rack = c .args .self .now in
-    let f = g .K·Kind .numbersOf in
+    let xs = view (g .K·Kind .numbersOf) (rack .row .nodes .now) in
+    let h : c .args .place < number xs = omega (arith, number-view (g .K·Kind .numbersOf) (rack .row .nodes .now), c .pre) in
     let full : 0 < placeAt (rack .places) (c .args .place) .nodes = omega (arith, c .if-self-place-eq0 .left) in
-    record { answer = sym (holding-yes (shelf f rack) (c .args .place) _ (at-full f (rack .row .nodes .now) (rack .places) (c .args .place) (c .pre) full)); held = full }
+    record { answer = sym (holding-yes (shelfOf xs (rack .places)) (c .args .place) _ (at-full xs (rack .places) (c .args .place) h full)); held = full }

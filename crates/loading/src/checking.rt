@@ -1,3 +1,4 @@
+// Whether a file is accepted for a kind, by its head and its items.
 ghost use Rattle.grammar.specs.Files.{File};
 ghost use Rattle.grammar.specs.Described.{Describes};
 ghost use Rattle.loading.specs.Checks.{Checks};

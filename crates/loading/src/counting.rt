@@ -1,3 +1,4 @@
+// Room for the nodes and the primitives of a file.
 ghost use mathlib.Core.Path.{_≡_};
 ghost use Rattle.std.specs.Results.{Cases};
 ghost use Rattle.grammar.specs.Loads.{isPrimitive, excess};

@@ -1,3 +1,4 @@
+// Nodes of a kind, made from the numbers in a file.
 ghost use mathlib.Core.Path.{_≡_};
 ghost use mathlib.Core.Bool.{true};
 ghost use Rattle.std.specs.Results.{Cases};

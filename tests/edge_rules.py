@@ -239,7 +239,7 @@ def answer(text, kind):
 
 
 def agrees(text):
-    """The two readings of the grammar agree on a text: on whether it is a file, and that what stands before a misfit begins one."""
+    """Whether the two readings of the grammar agree on a text: is it a file, and does what stands before a misfit begin one?"""
     misfit = first_misfit(text)
     if (misfit is None) != is_file(text):
         return False

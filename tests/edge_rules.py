@@ -1,4 +1,4 @@
-"""What a text gives on a rack of notes or clips, by the rules of docs/FORMAT.md and docs/KINDS.md as they are written out here.
+"""What a text gives on a rack of notes or clips: the rules of docs/FORMAT.md and docs/KINDS.md, written out.
 
 Nothing is taken from the library's code. `answer` gives `ok LENGTH NODES PRIMS` or `refused NUMBER PART DETAIL`.
 """
@@ -10,6 +10,7 @@ MOST_NODES = 1_023
 MOST_PRIMS = 170
 LONGEST = 16_777_215
 LARGEST = 4_294_967_295
+
 # ---- the grammar, as what may still come
 #
 # What is still wanted of a text is a chain of goals: `(goal, rest)` or None at the end. A goal is
@@ -235,11 +236,12 @@ def answer(text, kind):
         return f"refused 9 reading {count_at}"
     return f"ok {true_length} {len(nodes)} {len(prims)}"
 
-# ---- the oracle is held to itself
+
+# ---- the two readings of the grammar, compared
 
 
 def agrees(text):
-    """Whether the two readings of the grammar agree on a text: is it a file, and does what stands before a misfit begin one?"""
+    """Whether both readings take the text for a file or for none, and what stands before a misfit for a start of one."""
     misfit = first_misfit(text)
     if (misfit is None) != is_file(text):
         return False

@@ -14,7 +14,7 @@ def title(words):
 
 
 def kept(name, keep, kind, expected=None):
-    """A case of a file that is there, and of all of it where keep is None. Where an answer is expected, it has to be that."""
+    """A case of a file that is there, whole where keep is None. The answer has to be the one expected, if any is."""
     text = FILES[name] if keep is None else FILES[name][:keep]
     given = answer(text, kind)
     if expected is not None and given != expected:

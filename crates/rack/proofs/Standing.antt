@@ -4,7 +4,7 @@ use mathlib.Core.List.{List}
 use Prim.Native.Nat.{ℕ, _+_, _*_, _-_, _<_, _≤_}
 use native.Mathlib.Omega.{arith}
 use lib.ListN.{length, take, drop}
-use Rattle.std.proofs.shelf.Lists.{length-map, take-map, drop-map}
+use Rattle.std.proofs.shelf.Lists.{take-map, drop-map}
 use Rattle.algebra.specs.declared.numbers.Numbers.{Numbers}
 use Rattle.algebra.specs.declared.node.Node.{Node}
 use Rattle.algebra.specs.Score.{nodes, primitives}
@@ -26,8 +26,6 @@ module _ {P : Type 0} (f : P → Numbers) (ns : List (Node P)) (places : List Pl
 
   pub record Standing : Type 0 where
     pub held : Held (view f lent)
-    pub small : length lent ≤ 1023
-    pub some : 0 < length (view f lent)
     pub is : scoreAt (shelfOf (view f ns) places) p ≡ score-of (view f lent)
     pub full : nodes (scoreAt (shelfOf (view f ns) places) p) ≡ place .nodes
     pub count : primitives (scoreAt (shelfOf (view f ns) places) p) ≡ place .primitives
@@ -41,11 +39,8 @@ module _ {P : Type 0} (f : P → Numbers) (ns : List (Node P)) (places : List Pl
       ap (λ n. take n (drop (p * 1023) xs)) n ∙ ap (take (p * 1023 + place .nodes - p * 1023)) (drop-map (seen f) (p * 1023) ns) ∙ take-map (seen f) (p * 1023 + place .nodes - p * 1023) (drop (p * 1023) ns) in
       let t = tested-there xs places p h′ (tested-view f ns places all) z in
       let there = score-full xs places p h′ z in
-      let l = length-map lent (seen f) in
       record {
         held = subst Held row-is (held-from (used xs place p) (place .nodes) (place .primitives) t);
-        small = omega (arith, l, ap length row-is, t .long, t .small);
-        some = omega (arith, ap length row-is, t .long);
         is = there ∙ ap score-of row-is;
         full = ap nodes there ∙ t .full;
         count = ap primitives there ∙ t .count;

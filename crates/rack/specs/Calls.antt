@@ -1,8 +1,8 @@
 -- What each call on a rack answers, and what the places and the buffer then hold.
 use mathlib.Core.Path.{_≡_}
-use mathlib.Core.List.{List, [], _∷_, _++_}
+use mathlib.Core.List.{List, [], _∷_}
 use Prim.Native.Nat.{ℕ}
-use lib.ListN.{length, set, drop}
+use lib.ListN.{set}
 use Rattle.std.specs.declared.option.Option.the-variants.{Some, None}
 use Rattle.std.specs.declared.result.Result.{Result}
 use Rattle.std.specs.declared.result.Result.the-variants.{Ok, Err}
@@ -10,8 +10,9 @@ use Rattle.algebra.specs.Kind.{KindModel}
 use Rattle.algebra.specs.Score.{Score, Score.rest, nodes, primitives, score-length}
 use Rattle.refusals.specs.declared.refusal.Refusal.{Refusal}
 use Rattle.grammar.specs.Loads.{Loads, fileBytes}
+use Rattle.writing.specs.Writes.{writtenAnswer}
 use Rattle.rack.specs.Shelves.{Shelf, at, scoreAt}
-use Rattle.rack.specs.Checks.{Check, passed, all, answered, known, holding, vacant, roomFor}
+use Rattle.rack.specs.Checks.{Check, passed, all, followed, known, holding, vacant}
 
 -- The shelf after a call that puts a score at a place where it is not refused.
 abbrev pub put : Check → Shelf → ℕ → Score → Shelf
@@ -32,7 +33,7 @@ abbrev pub told : KindModel → Score → ℕ × ℕ × ℕ
 told K s = (score-length K s, nodes s, primitives s)
 
 abbrev pub tellAnswer : KindModel → Shelf → ℕ → Result (ℕ × ℕ × ℕ) Refusal
-tellAnswer K shelf p = answered (clearAnswer shelf p) (told K (scoreAt shelf p))
+tellAnswer K shelf p = followed (clearAnswer shelf p) (Ok (told K (scoreAt shelf p)))
 
 -- Load: what the text gives, and then 21 and 23 for the destination.
 abbrev pub fileCheck : Result Score Refusal → Check
@@ -54,12 +55,8 @@ pub record Loaded (K : KindModel) (text : List ℕ) (to : ℕ) (before after : S
   pub after-is : after ≡ put answer before to (scoreRead given)
 
 -- Write: the held score's file from the start of the buffer, with its number of bytes; 21, 22, 28.
-abbrev pub writeAnswer : KindModel → Shelf → ℕ → ℕ → Result ℕ Refusal
-writeAnswer K shelf p room =
-    let bytes = length (fileBytes K (scoreAt shelf p)) in
-    answered (all (known shelf p ∷ holding shelf p ∷ roomFor bytes room ∷ [])) bytes
+abbrev pub bytesAt : KindModel → Shelf → ℕ → List ℕ
+bytesAt K shelf p = fileBytes K (scoreAt shelf p)
 
--- A buffer after bytes were written over its front, unless that was refused; later bytes stay.
-abbrev pub overwritten : Result ℕ Refusal → List ℕ → List ℕ → List ℕ
-overwritten (Ok n) bytes buffer = bytes ++ drop n buffer
-overwritten (Err e) bytes buffer = buffer
+abbrev pub writeAnswer : KindModel → Shelf → ℕ → ℕ → Result ℕ Refusal
+writeAnswer K shelf p room = followed (clearAnswer shelf p) (writtenAnswer (bytesAt K shelf p) room)

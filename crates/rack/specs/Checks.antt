@@ -2,13 +2,13 @@
 use mathlib.Core.Bool.{Bool, cond, not}
 use mathlib.Core.List.{List, [], _∷_}
 use Prim.Native.Nat.{ℕ}
-use lib.Dec.{leb, ltb}
+use lib.Dec.{ltb}
 use lib.ListN.{length}
 use Rattle.std.specs.Options.{isSome}
 use Rattle.std.specs.declared.result.Result.{Result}
 use Rattle.std.specs.declared.result.Result.the-variants.{Ok, Err}
 use Rattle.refusals.specs.declared.refusal.Refusal.{Refusal}
-use Rattle.refusals.specs.declared.refusal.Refusal.the-variants.{NoSuchPlace, EmptyPlace, FullPlace, ShortBuffer}
+use Rattle.refusals.specs.declared.refusal.Refusal.the-variants.{NoSuchPlace, EmptyPlace, FullPlace}
 use Rattle.rack.specs.Shelves.{Shelf, at}
 
 abbrev pub Check : Type 0
@@ -26,10 +26,10 @@ all [] = passed
 all (Ok u ∷ more) = all more
 all (Err e ∷ more) = Err e
 
--- An answer, where the checks pass.
-abbrev pub answered : {X : Type 0} → Check → X → Result X Refusal
-answered (Ok u) x = Ok x
-answered (Err e) x = Err e
+-- What follows the checks, where they pass.
+abbrev pub followed : {X : Type 0} → Check → Result X Refusal → Result X Refusal
+followed (Ok u) r = r
+followed (Err e) r = Err e
 
 -- The rack has the place.
 abbrev pub known : Shelf → ℕ → Check
@@ -42,7 +42,3 @@ holding shelf p = unless (isSome (at shelf p)) (EmptyPlace p)
 -- The place holds none.
 abbrev pub vacant : Shelf → ℕ → Check
 vacant shelf p = unless (not (isSome (at shelf p))) (FullPlace p)
-
--- The buffer has room for the bytes.
-abbrev pub roomFor : ℕ → ℕ → Check
-roomFor bytes room = unless (leb bytes room) (ShortBuffer bytes)

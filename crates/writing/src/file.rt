@@ -2,7 +2,7 @@ ghost use mathlib.Core.Path.{_≡_};
 ghost use Prim.Native.Nat.{_≤_};
 ghost use lib.ListN.{length};
 ghost use Rattle.algebra.specs.Layout.{view, score-of};
-ghost use Rattle.algebra.specs.Score.{primitives, score-length};
+ghost use Rattle.algebra.specs.Score.{primitives};
 ghost use Rattle.grammar.specs.Files.{printFile};
 ghost use Rattle.grammar.specs.Loads.{fileBytes};
 ghost use Rattle.nodes.specs.Held.{Held, Whole};
@@ -15,20 +15,8 @@ use algebra::node::Node;
 use grammar::lines::BODY;
 use grammar::lines::ENDING;
 use kinds::kind::Kind;
-use nodes::span::Span;
-use nodes::spans::fill_spans;
+use nodes::measure::length_of;
 use refusals::refusal::Refusal;
-
-// The length of a score.
-fn ticks_of<K: Kind>(row: &[Node<K>]) -> u32
-    requires { ⌜ Held (view (K·Kind .numbersOf) (now row)) ⌝ }
-    ensures { λ r. ⌜ r ≡ score-length (K·Kind .model) (score-of (view (K·Kind .numbersOf) (now (row .entry)))) ⌝ }
-{
-    let mut spans = [Span { nodes: 0, length: 0 }; 1023];
-    fill_spans(row, &mut spans);
-    let span = spans[0];
-    span.length
-}
 
 // Writes the file of a score with a length and a count of primitives, and returns the end of what is written.
 fn put_file<K: Kind>(row: &[Node<K>], ticks: u32, count: u32, out: &mut [u8]) -> usize
@@ -50,7 +38,7 @@ pub fn write_file<K: Kind>(row: &[Node<K>], count: u32, buffer: &mut [u8]) -> Re
     ensures answer { λ r. ⌜ r ≡ writtenAnswer (fileBytes (K·Kind .model) (score-of (view (K·Kind .numbersOf) (now (row .entry))))) (length (now (buffer .entry))) ⌝ }
     ensures after { λ r. ⌜ now (buffer .exit) ≡ writtenOver r (fileBytes (K·Kind .model) (score-of (view (K·Kind .numbersOf) (now (row .entry))))) (now (buffer .entry)) ⌝ }
 {
-    let ticks = ticks_of(row);
+    let ticks = length_of(row);
     let mut file = [0u8; 16_384];
     let size = put_file(row, ticks, count, &mut file);
     if buffer.len() < size {

@@ -34,7 +34,12 @@ fn put_fields(out: &mut [u8], to: usize, numbers: Numbers) -> usize
 }
 
 // Writes the score that begins at a node, and returns the node behind it and the end of what is written.
-pub(crate) fn put_term<K: Kind>(row: &[Node<K>], at: usize, out: &mut [u8], to: usize) -> (usize, usize)
+pub(crate) fn put_term<K: Kind>(
+    row: &[Node<K>],
+    at: usize,
+    out: &mut [u8],
+    to: usize,
+) -> (usize, usize)
     requires whole { ⌜ Whole (view (K·Kind .numbersOf) (now row)) ⌝ }
     requires inside { ⌜ at < length (now row) ⌝ }
     requires room { ⌜ to + length (print (score-at (view (K·Kind .numbersOf) (now row)) at)) ≤ length (now out) ⌝ }
@@ -57,7 +62,13 @@ pub(crate) fn put_term<K: Kind>(row: &[Node<K>], at: usize, out: &mut [u8], to: 
 }
 
 // Writes the pair that begins at a node with the sign between its parts.
-fn put_pair<K: Kind>(row: &[Node<K>], at: usize, sign: u8, out: &mut [u8], to: usize) -> (usize, usize)
+fn put_pair<K: Kind>(
+    row: &[Node<K>],
+    at: usize,
+    sign: u8,
+    out: &mut [u8],
+    to: usize,
+) -> (usize, usize)
     requires whole { ⌜ Whole (view (K·Kind .numbersOf) (now row)) ⌝ }
     requires pair { ⌜ Paired (view (K·Kind .numbersOf) (now row)) at sign ⌝ }
     requires room { ⌜ to + length (print (score-at (view (K·Kind .numbersOf) (now row)) at)) ≤ length (now out) ⌝ }

@@ -1,16 +1,19 @@
 // The calls on a rack.
 ghost use mathlib.Core.Path.{_≡_};
-ghost use lib.ListN.{replicate};
+ghost use lib.ListN.{length, replicate};
 ghost use Rattle.std.specs.declared.option.Option.the-variants.{None};
 ghost use Rattle.rack.specs.Places.{number};
 ghost use Rattle.rack.specs.Shelves.{shelf};
-ghost use Rattle.rack.specs.Calls.{tellAnswer, clearAnswer, cleared};
+ghost use Rattle.rack.specs.Calls.{tellAnswer, clearAnswer, cleared, bytesAt, writeAnswer};
+ghost use Rattle.writing.specs.Writes.{writtenOver};
 use crate::place::Place;
 use crate::rack::Rack;
+use crate::rack::checks::SEGMENT;
 use crate::row::Row;
 use algebra::node::Node;
 use kinds::kind::Kind;
 use refusals::refusal::Refusal;
+use writing::file::write_file;
 
 impl<'a, K: Kind> Rack<'a, K> {
     // A rack with a place for each 1,023 of the nodes, up to 8, all empty.
@@ -49,5 +52,21 @@ impl<'a, K: Kind> Rack<'a, K> {
             primitives: 0,
         };
         Ok(())
+    }
+
+    // Writes the file of the score at a place from the start of the buffer, and returns how many bytes it has.
+    pub fn write(&self, place: u32, buffer: &mut [u8]) -> Result<u32, Refusal>
+        ensures answer { λ r. ⌜ r ≡ writeAnswer (K·Kind .model) (shelf (K·Kind .numbersOf) (now (self .entry))) place (length (now (buffer .entry))) ⌝ }
+        ensures after { λ r. ⌜ now (buffer .exit) ≡ writtenOver r (bytesAt (K·Kind .model) (shelf (K·Kind .numbersOf) (now (self .entry))) place) (now (buffer .entry)) ⌝ }
+    {
+        self.known(place)?;
+        self.holding(place)?;
+        let start = place as usize * SEGMENT;
+        let noted = self.places[place as usize];
+        write_file(
+            &self.row.nodes[start..start + noted.nodes as usize],
+            noted.primitives,
+            buffer,
+        )
     }
 }

@@ -8,8 +8,7 @@ ghost use Rattle.rack.specs.Shelves.{shelf, scoreAt};
 ghost use Rattle.rack.specs.Checks.{known, holding, vacant};
 use crate::rack::Rack;
 use kinds::kind::Kind;
-use nodes::span::Span;
-use nodes::spans::fill_spans;
+use nodes::measure::length_of;
 use refusals::refusal::Refusal;
 
 // The nodes of a place's segment: as many as a score may have.
@@ -65,15 +64,9 @@ impl<'a, K: Kind> Rack<'a, K> {
         ensures { λ r. ⌜ r ≡ score-length (K·Kind .model) (scoreAt (shelf (K·Kind .numbersOf) (now (self .entry))) place) ⌝ }
     {
         let start = place as usize * SEGMENT;
-        let mut spans = [Span {
-            nodes: 0,
-            length: 0,
-        }; 1023];
-        fill_spans(
+        length_of(
             &self.row
                 .nodes[start..start + self.places[place as usize].nodes as usize],
-            &mut spans,
-        );
-        spans[0].length
+        )
     }
 }

@@ -16,8 +16,13 @@ put-number-line-fourth-requires c κs =
 
 pub put-number-line-requires : need.put-number-line-requires
 put-number-line-requires c κs =
-    omega (arith, length-head (c .args .kind .now) (c .args .ticks) (c .args .count), length-line (codes "kind=") (c .args .kind .now),
-    length-line (codes "length=") (decimal (c .args .ticks)), length-line (codes "prims=") (decimal (c .args .count)))
+    omega (
+      arith,
+      length-head (c .args .kind .now) (c .args .ticks) (c .args .count),
+      length-line (codes "kind=") (c .args .kind .now),
+      length-line (codes "length=") (decimal (c .args .ticks)),
+      length-line (codes "prims=") (decimal (c .args .count)),
+    )
 
 pub returns : need.returns
 returns c =

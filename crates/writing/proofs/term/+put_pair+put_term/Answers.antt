@@ -60,7 +60,6 @@ put-pair-returns g t c =
           (wrote-then _ _ _ _ (41 ∷ []) _ _ _ (omega arith) (wrote-as _ _ _ _ (ap (λ k. print (score-at xs k)) right) (c .put-term-behind .ensures .wrote)) (c .put-byte .ensures)))));
     }
 
-
 pub put-term-put-byte-next-requires : need.put-term-put-byte-next-requires
 put-term-put-byte-next-requires g t c κs =
     let is = read-rest (g .K·Kind .numbersOf) (c .args .row .now) (c .pre .whole) (c .args .at) (c .pre .inside) (c .index-row-at .result) (c .index-row-at .is) (c .in-Rest .ticks) (c .in-Rest .is) in

@@ -8,7 +8,7 @@ use Rattle.algebra.specs.Score.{nodes, primitives}
 use Rattle.algebra.specs.Layout.{view}
 use Rattle.rack.specs.Places.{number}
 use Rattle.rack.specs.Shelves.{shelf, scoreAt}
-use Rattle.rack.specs.Checks.{answered, passed}
+use Rattle.rack.specs.Checks.{followed, passed}
 use Rattle.rack.specs.Calls.{told, clearAnswer}
 use Rattle.rack.proofs.Shelves.{clear-passes, number-view}
 use Rattle.rack.proofs.Standing.{standing}
@@ -28,4 +28,4 @@ returns g c =
     let second = sym (s .full) in
     let third = sym (s .count) in
     let same : _≡_ {A = Result (ℕ × ℕ × ℕ) Refusal} (Ok (c .length .result, _, _)) (Ok (told (g .K·Kind .model) (scoreAt (shelf f rack) p))) = (λ i. Ok (c .length .ensures i, second i, third i)) in
-    same ∙ sym (ap (λ k. answered k (told (g .K·Kind .model) (scoreAt (shelf f rack) p))) passes)
+    same ∙ sym (ap (λ k. followed k (Ok (told (g .K·Kind .model) (scoreAt (shelf f rack) p)))) passes)

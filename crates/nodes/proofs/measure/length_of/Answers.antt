@@ -3,11 +3,11 @@ use native.Mathlib.Omega.{arith}
 use lib.ListN.{length}
 use Rattle.std.proofs.shelf.Lists.{length-map}
 use Rattle.algebra.specs.Layout.{seen, view, score-of}
 use Rattle.nodes.specs.declared.span.Span.{Span}
 use Rattle.nodes.proofs.Lengths.{length-held}
 use Rattle.nodes.proofs.Parts.{some-node}
 use Rattle.nodes.proofs.Readings.{long}
-use Rattle.writing.proofs.file.ticks_of.Needs as need
+use Rattle.nodes.proofs.measure.length_of.Needs as need
 
 pub fill-spans-requires : need.fill-spans-requires
 fill-spans-requires g c κs =

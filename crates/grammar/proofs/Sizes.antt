@@ -1,5 +1,5 @@
 -- How many bytes a file has at most.
-use mathlib.Core.Path.{_≡_, refl, ap, _∙_}
+use mathlib.Core.Path.{_≡_}
 use mathlib.Core.List.{List, [], _∷_, _++_}
 use Prim.Native.Nat.{ℕ, _+_, _*_, _^_, _<_, _≤_}
 use native.Mathlib.Omega.{arith}
@@ -9,7 +9,6 @@ use Rattle.std.specs.Written.{decimal}
 use Rattle.std.proofs.shelf.Decimals.{length-decimal-le}
 use Rattle.std.proofs.shelf.Lists.{length-append}
 use Rattle.algebra.specs.declared.numbers.Numbers.{Numbers}
-use Rattle.algebra.specs.Kind.{Words}
 use Rattle.algebra.specs.Score.{Score, Score.rest, Score.primitive, Score.sequence, Score.parallel, nodes, primitives}
 use Rattle.grammar.specs.Files.{field, fields, print, Grammatical, File, line, signature, printHead, ending, printFile}
 
@@ -48,8 +47,15 @@ length-head kind ticks count =
     let k = line (codes "kind=") kind in
     let l = line (codes "length=") (decimal ticks) in
     let p = line (codes "prims=") (decimal count) in
-    omega (arith, length-append signature (k ++ (l ++ p)), length-append k (l ++ p), length-append l p,
-    length-line (codes "kind=") kind, length-line (codes "length=") (decimal ticks), length-line (codes "prims=") (decimal count))
+    omega (
+      arith,
+      length-append signature (k ++ (l ++ p)),
+      length-append k (l ++ p),
+      length-append l p,
+      length-line (codes "kind=") kind,
+      length-line (codes "length=") (decimal ticks),
+      length-line (codes "prims=") (decimal count),
+    )
 
 pub length-printed : (f : File) → length (printFile f) ≡ length (printHead (f .kind) (f .ticks) (f .count)) + 16 + length (print (f .body))
 length-printed f =
@@ -59,5 +65,11 @@ length-printed f =
 -- a file within the limits has at most 16,384 bytes
 pub length-file : (f : File) → length (f .kind) ≤ 8 → f .ticks < 10 ^ 8 → f .count ≤ 170 → Grammatical (f .body) → nodes (f .body) ≤ 1023 → primitives (f .body) ≤ 170 → length (printFile f) ≤ 16384
 length-file f named ticks count body small few =
-    omega (arith, length-printed f, length-head (f .kind) (f .ticks) (f .count), length-print (f .body) body,
-    length-decimal-le 8 (f .ticks) (omega arith) (omega arith) (omega arith), length-decimal-le 3 (f .count) (omega arith) (omega arith) (omega arith))
+    omega (
+      arith,
+      length-printed f,
+      length-head (f .kind) (f .ticks) (f .count),
+      length-print (f .body) body,
+      length-decimal-le 8 (f .ticks) (omega arith) (omega arith) (omega arith),
+      length-decimal-le 3 (f .count) (omega arith) (omega arith) (omega arith),
+    )

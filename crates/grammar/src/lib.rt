@@ -3,3 +3,4 @@ pub mod draft;
 pub mod head;
 pub mod item;
 pub mod lines;
+pub mod theorems;

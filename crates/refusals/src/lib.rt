@@ -1,3 +1,3 @@
 // Why a call is refused: a number, the part that refuses, and a detail.
 pub mod refusal;
-mod sentence;
+pub mod sentence;

@@ -2,11 +2,10 @@
 use mathlib.Core.Path.{_≡_, ap, _∙_}
 use mathlib.Core.List.{List}
 use Prim.Native.Nat.{ℕ, _+_}
-use native.Mathlib.Omega.{arith}
 use lib.ListN.{length}
 use Rattle.algebra.specs.declared.numbers.Numbers.{Numbers}
 use Rattle.algebra.specs.declared.node.Node.{Node}
-use Rattle.algebra.specs.Score.{Score, Score.sequence, Score.parallel, nodes}
+use Rattle.algebra.specs.Score.{Score.sequence, Score.parallel, nodes}
 use Rattle.algebra.specs.Layout.{score-at}
 use Rattle.grammar.specs.Files.{print}
 use Rattle.grammar.proofs.Sizes.{length-pair}

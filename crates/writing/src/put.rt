@@ -1,3 +1,4 @@
+// Bytes and numbers in base ten, written one after the other.
 ghost use mathlib.Core.List.{[], _∷_};
 ghost use Prim.Native.Nat.{_+_, _<_, _≤_};
 ghost use lib.ListN.{length};

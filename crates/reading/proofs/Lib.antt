@@ -1,0 +1,10 @@
+pub mod Composition
+pub mod Runs
+pub mod Steps
+pub mod Numbers
+pub mod Lines
+pub mod Whole
+pub mod Leaves
+pub mod Drafted
+pub mod Scores
+pub mod Pairs

@@ -2,5 +2,6 @@
 pub mod checking;
 mod counting;
 mod legality;
+pub mod load;
 mod measuring;
 pub mod placing;

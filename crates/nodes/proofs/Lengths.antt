@@ -53,3 +53,10 @@ module _ (K : KindModel) (laws : LengthLaws K) where
     -- far below 2 ^ 32
     pub length-held : (row : List (Node P)) → Held (view f row) → score-length K (score-of (view f row)) ≤ 27918165
     length-held row held = omega (arith, at-most (score-of (view f row)) (legal-row row), held .short, held .few)
+
+-- with each primitive counted as 0 a score is no longer
+pub bare-at-most : (K : KindModel) (s : Score) → bare s ≤ score-length K s
+bare-at-most K (rest d) = omega arith
+bare-at-most K (primitive p) = omega arith
+bare-at-most K (sequence a b) = omega (arith, bare-at-most K a, bare-at-most K b)
+bare-at-most K (parallel a b) = omega (arith, bare-at-most K a, bare-at-most K b)

@@ -1,3 +1,4 @@
 pub mod Shelves
 pub mod Placing
 pub mod Standing
+pub mod Loading

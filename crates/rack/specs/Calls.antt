@@ -48,7 +48,7 @@ abbrev pub loadAnswer : Result Score Refusal → Shelf → ℕ → Check
 loadAnswer given shelf to = all (fileCheck given ∷ known shelf to ∷ vacant shelf to ∷ [])
 
 -- A text was loaded at a place, or refused: by what the text gives, an answer and the shelf after it.
-pub record Loaded (K : KindModel) (text : List ℕ) (to : ℕ) (before after : Shelf) (answer : Check) : Type 0 where
+pub record LoadedAt (K : KindModel) (text : List ℕ) (to : ℕ) (before after : Shelf) (answer : Check) : Type 0 where
   pub given : Result Score Refusal
   pub gives : Loads K text given
   pub answer-is : answer ≡ loadAnswer given before to

@@ -4,14 +4,17 @@ ghost use lib.ListN.{length, replicate};
 ghost use Rattle.std.specs.declared.option.Option.the-variants.{None};
 ghost use Rattle.rack.specs.Places.{number};
 ghost use Rattle.rack.specs.Shelves.{shelf};
-ghost use Rattle.rack.specs.Calls.{tellAnswer, clearAnswer, cleared, bytesAt, writeAnswer};
+ghost use Rattle.rack.specs.Calls.{LoadedAt, tellAnswer, clearAnswer, cleared, bytesAt, writeAnswer};
 ghost use Rattle.writing.specs.Writes.{writtenOver};
 use crate::place::Place;
 use crate::rack::Rack;
 use crate::rack::checks::SEGMENT;
 use crate::row::Row;
 use algebra::node::Node;
+use grammar::draft::Draft;
 use kinds::kind::Kind;
+use loading::load::load;
+use reading::states::HeadedReading;
 use refusals::refusal::Refusal;
 use writing::file::write_file;
 
@@ -28,6 +31,22 @@ impl<'a, K: Kind> Rack<'a, K> {
             row: Row { nodes },
             places: [empty; 8],
         }
+    }
+
+    // Puts the score of a file at an empty place. The reading is used up.
+    pub fn load(&mut self, to: u32, reading: HeadedReading<'_>) -> Result<(), Refusal>
+        ensures { λ r. ⌜ LoadedAt (K·Kind .model) (now (reading .entry .text)) to (shelf (K·Kind .numbersOf) (now (self .entry))) (shelf (K·Kind .numbersOf) (now (self .exit))) r ⌝ }
+    {
+        let mut draft = Draft::new();
+        let loaded = load::<K>(reading, &mut draft)?;
+        self.known(to)?;
+        self.vacant(to)?;
+        self.row.place(draft.items(), to as usize * SEGMENT);
+        self.places[to as usize] = Place {
+            nodes: loaded.nodes,
+            primitives: loaded.primitives,
+        };
+        Ok(())
     }
 
     // The length of the score at a place, and how many nodes and primitives it has.

@@ -2,3 +2,4 @@ pub mod Shelves
 pub mod Placing
 pub mod Standing
 pub mod Loading
+pub mod Writing

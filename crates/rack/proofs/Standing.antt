@@ -29,6 +29,8 @@ module _ {P : Type 0} (f : P → Numbers) (ns : List (Node P)) (places : List Pl
     pub is : scoreAt (shelfOf (view f ns) places) p ≡ score-of (view f lent)
     pub full : nodes (scoreAt (shelfOf (view f ns) places) p) ≡ place .nodes
     pub count : primitives (scoreAt (shelfOf (view f ns) places) p) ≡ place .primitives
+    pub few-nodes : place .nodes ≤ 1023
+    pub few-primitives : place .primitives ≤ 170
 
   pub standing : Standing
   standing =
@@ -44,4 +46,6 @@ module _ {P : Type 0} (f : P → Numbers) (ns : List (Node P)) (places : List Pl
         is = there ∙ ap score-of row-is;
         full = ap nodes there ∙ t .full;
         count = ap primitives there ∙ t .count;
+        few-nodes = t .small;
+        few-primitives = t .few;
       }

@@ -2,3 +2,4 @@ pub mod Places
 pub mod Shelves
 pub mod Checks
 pub mod Calls
+pub mod Written

@@ -1,10 +1,12 @@
 // The calls on a rack.
 ghost use mathlib.Core.Path.{_≡_};
-ghost use lib.ListN.{length, replicate};
+ghost use lib.ListN.{length, take, replicate};
+ghost use Rattle.std.specs.Vec.{made};
 ghost use Rattle.std.specs.declared.option.Option.the-variants.{None};
 ghost use Rattle.rack.specs.Places.{number};
-ghost use Rattle.rack.specs.Shelves.{shelf};
+ghost use Rattle.rack.specs.Shelves.{shelf, scoreAt};
 ghost use Rattle.rack.specs.Calls.{LoadedAt, tellAnswer, clearAnswer, cleared, bytesAt, writeAnswer};
+ghost use Rattle.rack.specs.Written.{FileOf};
 ghost use Rattle.writing.specs.Writes.{writtenOver};
 use crate::place::Place;
 use crate::rack::Rack;
@@ -77,6 +79,7 @@ impl<'a, K: Kind> Rack<'a, K> {
     pub fn write(&self, place: u32, buffer: &mut [u8]) -> Result<u32, Refusal>
         ensures answer { λ r. ⌜ r ≡ writeAnswer (K·Kind .model) (shelf (K·Kind .numbersOf) (now (self .entry))) place (length (now (buffer .entry))) ⌝ }
         ensures after { λ r. ⌜ now (buffer .exit) ≡ writtenOver r (bytesAt (K·Kind .model) (shelf (K·Kind .numbersOf) (now (self .entry))) place) (now (buffer .entry)) ⌝ }
+        ensures file { λ r. ⌜ made r (λ n. FileOf (K·Kind .model) (scoreAt (shelf (K·Kind .numbersOf) (now (self .entry))) place) (take n (now (buffer .exit)))) ⌝ }
     {
         self.known(place)?;
         self.holding(place)?;

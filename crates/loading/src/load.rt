@@ -1,6 +1,7 @@
 ghost use Rattle.grammar.specs.Drafts.{drafted};
 ghost use Rattle.loading.specs.Gives.{Gives};
-use crate::checking::{Loaded, check};
+use crate::checking::Loaded;
+use crate::checking::check;
 use grammar::draft::Draft;
 use kinds::kind::Kind;
 use reading::states::HeadedReading;

@@ -1,3 +1,12 @@
 pub mod Kind
 pub mod Score
 pub mod Layout
+pub mod Bag
+pub mod Meaning
+pub mod Rules
+pub mod Normal
+pub mod Cuts
+pub mod Rewrite
+pub mod Compare
+pub mod Limits
+pub mod Theorems

@@ -1,6 +1,8 @@
 -- Scores: terms of rests and primitives, in sequence and in parallel. A score means a length and a bag of placed primitives.
+use mathlib.Core.Bool.{Bool, _&&_}
 use mathlib.Core.List.{List, [], _∷_, _++_, map}
 use Prim.Native.Nat.{ℕ, _+_, max}
+use lib.Dec.{eqb}
 use Rattle.algebra.specs.declared.numbers.Numbers.{Numbers}
 use Rattle.algebra.specs.Kind.{KindModel, LegalNumbers}
 
@@ -40,6 +42,12 @@ Legal K (parallel a b) = Legal K a × Legal K b
 pub record Placed : Type 0 where
   pub onset : ℕ
   pub what : Numbers
+
+abbrev pub same-numbers : Numbers → Numbers → Bool
+same-numbers p q = eqb (p .first) (q .first) && (eqb (p .second) (q .second) && (eqb (p .third) (q .third) && eqb (p .fourth) (q .fourth)))
+
+abbrev pub same-placed : Placed → Placed → Bool
+same-placed x y = eqb (x .onset) (y .onset) && same-numbers (x .what) (y .what)
 
 abbrev pub later : ℕ → Placed → Placed
 later k x = record { onset = k + x .onset; what = x .what }

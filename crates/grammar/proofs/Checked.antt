@@ -20,7 +20,7 @@ use Rattle.grammar.specs.declared.item.Item.{Item}
 use Rattle.grammar.specs.Files.{print, File, ticksOffset, countOffset, bodyOffset}
 use Rattle.grammar.specs.Items.{items}
 use Rattle.grammar.specs.Loads.{isPrimitive, excess, legalNode, illegal, refusedAt, provided, checked, fileOf}
-use Rattle.grammar.specs.Theorems.{Holdable}
+use Rattle.algebra.specs.Limits.{Holdable}
 
 abbrev one-if : Bool → ℕ
 one-if b = cond b 1 0
@@ -155,9 +155,7 @@ module _ (K : KindModel) where
       let (small, thin) = few 1023 170 (items at t) none in
       let holdable : Holdable K t = record {
         legal = legal-term at t legal;
-        few-nodes = omega (arith, length-items at t);
-        few-primitives = omega (arith, primitives-items at t);
-        short = leb-true (score-length K t) 16777215 short;
+        fits = record { few-nodes = omega (arith, length-items at t); few-primitives = omega (arith, primitives-items at t); short = leb-true (score-length K t) 16777215 short };
       } in
       record {
         ticks = eqb-true (f .ticks) (score-length K t) ticks ∙ ap (score-length K) is;
@@ -169,8 +167,8 @@ module _ (K : KindModel) where
   pub given : (s : Score) → Holdable K s → checked K (fileOf K s) ≡ Ok s
   given s h =
       let at = bodyOffset (fileOf K s) in
-      unrefused (excess 1023 170 (items at s)) TooManyInFile _ s (none-over 1023 170 (items at s) (omega (arith, length-items at s, h .few-nodes)) (omega (arith, primitives-items at s, h .few-primitives)))
+      unrefused (excess 1023 170 (items at s)) TooManyInFile _ s (none-over 1023 170 (items at s) (omega (arith, length-items at s, h .fits .few-nodes)) (omega (arith, primitives-items at s, h .fits .few-primitives)))
       (unrefused (illegal K (items at s)) IllegalNumbers _ s (none-illegal at s (h .legal))
-      (now-provided (leb (score-length K s) 16777215) (TooLongInFile at) _ s (le-leb (score-length K s) 16777215 (h .short))
+      (now-provided (leb (score-length K s) 16777215) (TooLongInFile at) _ s (le-leb (score-length K s) 16777215 (h .fits .short))
       (now-provided (eqb (score-length K s) (score-length K s)) (UntrueHead (ticksOffset (fileOf K s))) _ s (eq-eqb (score-length K s) (score-length K s) refl)
       (now-provided (eqb (primitives s) (primitives s)) (UntrueHead (countOffset (fileOf K s))) (Ok s) s (eq-eqb (primitives s) (primitives s) refl) refl))))

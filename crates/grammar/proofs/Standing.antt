@@ -19,7 +19,8 @@ use Rattle.refusals.specs.declared.refusal.Section.the-variants as section
 use Rattle.grammar.specs.Files.{Grammatical, File, GrammaticalFile, line, printFile, IsFile, FirstMisfit}
 use Rattle.grammar.specs.Refusals.{Signed, Headed, HeadRefused, HeadRefused.oversize, HeadRefused.unsigned, HeadRefused.unheaded, Refused, Refused.headless, Refused.other-kind, Refused.misfit}
 use Rattle.grammar.specs.Loads.{Loads, Loads.refused, Loads.file, checked, fileOf, fileBytes}
-use Rattle.grammar.specs.Theorems.{OneAnswer, Holdable, ReadExactly, WrittenBack}
+use Rattle.grammar.specs.Theorems.{OneAnswer, ReadExactly, WrittenBack}
+use Rattle.algebra.specs.Limits.{Holdable}
 use Rattle.grammar.proofs.Checked.{gives, given}
 use Rattle.grammar.proofs.Sizes.{length-file}
 use Rattle.grammar.proofs.Unique.{same-head, same-file}
@@ -111,7 +112,7 @@ module _ (K : KindModel) (laws : KindLaws K) where
 
 pub written-back : WrittenBack
 written-back K laws s h =
-    let body = grammatical K laws s (h .legal) (h .short) in
-    let within : GrammaticalFile (fileOf K s) = record { head = record { name = laws .named; short = h .short; few = h .few-primitives }; body = body } in
-    let small = length-file (fileOf K s) (laws .named .short) (omega (arith, h .short)) (h .few-primitives) body (h .few-nodes) (h .few-primitives) in
+    let body = grammatical K laws s (h .legal) (h .fits .short) in
+    let within : GrammaticalFile (fileOf K s) = record { head = record { name = laws .named; short = h .fits .short; few = h .fits .few-primitives }; body = body } in
+    let small = length-file (fileOf K s) (laws .named .short) (omega (arith, h .fits .short)) (h .fits .few-primitives) body (h .fits .few-nodes) (h .fits .few-primitives) in
     subst (Loads K (fileBytes K s)) (given K s h) (file (fileOf K s) within small refl refl)

@@ -1,24 +1,18 @@
 -- What is proved of texts and scores, for every kind.
 use mathlib.Core.Path.{_≡_}
 use mathlib.Core.List.{List}
-use Prim.Native.Nat.{ℕ, _≤_}
+use Prim.Native.Nat.{ℕ}
 use Rattle.std.specs.declared.result.Result.{Result}
 use Rattle.std.specs.declared.result.Result.the-variants.{Ok, Err}
 use Rattle.refusals.specs.declared.refusal.Refusal.{Refusal}
 use Rattle.algebra.specs.Kind.{KindModel, KindLaws}
-use Rattle.algebra.specs.Score.{Score, Legal, nodes, primitives, score-length}
+use Rattle.algebra.specs.Score.{Score}
+use Rattle.algebra.specs.Limits.{Holdable}
 use Rattle.grammar.specs.Loads.{Loads, fileBytes}
 
 -- A text gives one answer at most: one score or one refusal.
 abbrev pub OneAnswer : Type 0
 OneAnswer = (K : KindModel) (text : List ℕ) (q r : Result Score Refusal) → Loads K text q → Loads K text r → q ≡ r
-
--- A score that may be held: its primitives are of the kind, and it is within the limits.
-pub record Holdable (K : KindModel) (s : Score) : Type 0 where
-  pub legal : Legal K s
-  pub few-nodes : nodes s ≤ 1023
-  pub few-primitives : primitives s ≤ 170
-  pub short : score-length K s ≤ 16777215
 
 -- Only scores that may be held are read, and each from one text alone: its file.
 abbrev pub ReadExactly : Type 0

@@ -1,16 +1,17 @@
 -- Clips keep the laws of a kind.
-use mathlib.Core.Path.{_≡_, refl, sym, ap, _∙_}
+use mathlib.Core.Path.{_≡_, refl}
 use mathlib.Core.Bool.{true}
-use Prim.Native.Nat.{ℕ, _+_, _-_, _≤_, _<_}
+use Prim.Native.Nat.{ℕ, _+_, _≤_, _<_}
 use native.Mathlib.Omega.{arith}
 use Rattle.std.proofs.shelf.Ways.{tells}
 use Rattle.std.specs.Orderings.{Ranked, thenBy}
 use Rattle.std.specs.declared.cmp.Ordering.{Ordering}
 use Rattle.std.specs.declared.cmp.Ordering.the-variants.{Less, Equal, Greater}
 use Rattle.algebra.specs.declared.numbers.Numbers.{Numbers}
-use Rattle.algebra.specs.Kind.{KindLaws, four}
+use Rattle.algebra.specs.Kind.{KindLaws}
 use Rattle.kinds.specs.Clip.{clip}
-use Rattle.kinds.proofs.Orders.{same-four, first-equal, first-opposite, first-before}
+use Rattle.algebra.proofs.Orders.{first-equal, first-opposite, first-before}
+use Rattle.kinds.proofs.Numbers.{same-four}
 
 record IsClip (p : Numbers) : Type 0 where
   source : p .first ≤ 9999

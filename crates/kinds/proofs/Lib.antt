@@ -1,3 +1,3 @@
-pub mod Orders
+pub mod Numbers
 pub mod Notes
 pub mod Clips

@@ -1,12 +1,13 @@
 -- Notes keep the laws of a kind.
-use mathlib.Core.Path.{_≡_, refl, sym, ap, _∙_}
+use mathlib.Core.Path.{_≡_, refl, sym, _∙_}
 use mathlib.Core.Bool.{true}
-use Prim.Native.Nat.{ℕ, _-_, _≤_, _<_}
+use Prim.Native.Nat.{ℕ, _-_, _≤_}
 use native.Mathlib.Omega.{arith}
 use Rattle.algebra.specs.declared.numbers.Numbers.{Numbers}
 use Rattle.algebra.specs.Kind.{KindLaws, four}
 use Rattle.kinds.specs.Note.{note}
-use Rattle.kinds.proofs.Orders.{same-four, first-equal, first-opposite, first-before}
+use Rattle.algebra.proofs.Orders.{first-equal, first-opposite, first-before}
+use Rattle.kinds.proofs.Numbers.{same-four}
 
 record IsNote (p : Numbers) : Type 0 where
   pitch : p .first ≤ 127

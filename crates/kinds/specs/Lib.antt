@@ -1,3 +1,4 @@
 pub mod Answers
 pub mod Note
 pub mod Clip
+pub mod Examples

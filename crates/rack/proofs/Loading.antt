@@ -13,7 +13,7 @@ use Rattle.algebra.specs.Score.{nodes, primitives}
 use Rattle.algebra.specs.Layout.{preorder}
 use Rattle.grammar.specs.declared.item.Item.{Item}
 use Rattle.grammar.specs.Items.{nodesOf}
-use Rattle.grammar.specs.Theorems.{Holdable}
+use Rattle.algebra.specs.Limits.{Fits}
 use Rattle.grammar.proofs.Standing.{read-exactly}
 use Rattle.loading.specs.declared.checking.Loaded.{Loaded}
 use Rattle.loading.specs.Gives.{Given}
@@ -27,12 +27,12 @@ use Rattle.rack.proofs.Shelves.{segment-within}
 use Rattle.rack.proofs.Placing.{Placed, placed-score}
 
 module _ (K : KindModel) (text : List ℕ) (is : List Item) (loaded : Loaded) (given : Given K text is loaded) where
-  holdable : Holdable K (given .score)
-  holdable = read-exactly K text (given .score) (given .loads) .0
+  fits : Fits K (given .score)
+  fits = read-exactly K text (given .score) (given .loads) .0 .fits
 
   -- the items fit the segment of a place
   pub items-fit : {X : Type 0} (ns : List X) (to : ℕ) → to < number ns → to * 1023 + length is ≤ length ns
-  items-fit ns to h = omega (arith, segment-within ns to h, length-nodes is, ap length (given .laid), length-preorder (given .score), holdable .few-nodes)
+  items-fit ns to h = omega (arith, segment-within ns to h, length-nodes is, ap length (given .laid), length-preorder (given .score), fits .few-nodes)
 
   -- what is noted of it
   abbrev pub noted : Place
@@ -43,4 +43,4 @@ module _ (K : KindModel) (text : List ℕ) (is : List Item) (loaded : Loaded) (g
       let s = given .score in
       let same : noted ≡ record { nodes = nodes s; primitives = primitives s } = λ i. record { nodes = given .nodes-are i; primitives = given .primitives-are i } in
       subst (λ (q : Place). Placed xs xs′ to q (Some s)) (sym same)
-      (placed-score xs xs′ to s h (e ∙ ap (overlaid xs (to * 1023)) (given .laid)) (holdable .few-nodes) (holdable .few-primitives) (omega (arith, bare-at-most K s, holdable .short)))
+      (placed-score xs xs′ to s h (e ∙ ap (overlaid xs (to * 1023)) (given .laid)) (fits .few-nodes) (fits .few-primitives) (omega (arith, bare-at-most K s, fits .short)))

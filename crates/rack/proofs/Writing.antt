@@ -12,7 +12,7 @@ use Rattle.algebra.specs.Kind.{KindModel, KindLaws}
 use Rattle.algebra.specs.Score.{Score, Legal, nodes, primitives, score-length}
 use Rattle.refusals.specs.declared.refusal.Refusal.{Refusal}
 use Rattle.grammar.specs.Loads.{Loads, fileBytes}
-use Rattle.grammar.specs.Theorems.{Holdable}
+use Rattle.algebra.specs.Limits.{Holdable}
 use Rattle.grammar.proofs.Standing.{one-answer, read-exactly, written-back}
 use Rattle.writing.specs.Writes.{writtenAnswer, writtenOver}
 use Rattle.rack.specs.Shelves.{Shelf}
@@ -22,7 +22,7 @@ use Rattle.rack.specs.Written.{Returned, FileOf}
 
 module _ (K : KindModel) (laws : KindLaws K) (s : Score) (legal : Legal K s) (few : nodes s ≤ 1023) (sparse : primitives s ≤ 170) where
   accepted : score-length K s ≤ 16777215 → Loads K (fileBytes K s) (Ok s)
-  accepted short = written-back K laws s (record { legal = legal; few-nodes = few; few-primitives = sparse; short = short })
+  accepted short = written-back K laws s (record { legal = legal; fits = record { few-nodes = few; few-primitives = sparse; short = short } })
 
   pub file-of : FileOf K s (fileBytes K s)
   file-of = record {

@@ -3,8 +3,8 @@ use mathlib.Core.Path.{_≡_}
 use Prim.Native.Nat.{ℕ}
 use native.Mathlib.Omega.{arith}
 use Rattle.std.specs.declared.cmp.Ordering.{Ordering}
-use Rattle.std.specs.declared.cmp.Ordering.the-variants.{Less, Equal, Greater}
-use Rattle.algebra.specs.Kind.{four, smaller-first, opposite}
+use Rattle.std.specs.declared.cmp.Ordering.the-variants.{Less, Equal}
+use Rattle.algebra.specs.Kind.{smaller-first, opposite}
 
 module _ (a b : ℕ) (o : Ordering) where
   pub first-equal : smaller-first a b o ≡ Equal → (a ≡ b) × (o ≡ Equal)
@@ -15,6 +15,3 @@ module _ (a b : ℕ) (o : Ordering) where
 
   pub first-before : (c : ℕ) (u v : Ordering) → (o ≡ Less → u ≡ Less → v ≡ Less) → smaller-first a b o ≡ Less → smaller-first b c u ≡ Less → smaller-first a c v ≡ Less
   first-before c u v k e d = grind arith
-
-pub same-four : {a b c d a′ b′ c′ d′ : ℕ} → a ≡ a′ → b ≡ b′ → c ≡ c′ → d ≡ d′ → four a b c d ≡ four a′ b′ c′ d′
-same-four p q r s i = four (p i) (q i) (r i) (s i)

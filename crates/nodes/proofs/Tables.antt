@@ -55,6 +55,18 @@ module _ (K : KindModel) (xs : List (Node Numbers)) (whole : Whole xs) (small : 
     inside-at Sequence e = listed sequence (sequence-at xs whole at h Sequence e refl) .inside
     inside-at Parallel e = listed parallel (parallel-at xs whole at h Parallel e refl) .inside
 
+    -- a pair, by where the table has its right part
+    moved : (f : Score → Score → Score) → Pair f xs at (at + 1) (at + 1 + nodes (score-at xs (at + 1))) → Pair f xs at (at + 1) (right-of spans at)
+    moved f p =
+        let l = behind (at + 1) (omega arith) (omega (arith, p .ends, p .right-some)) in
+        subst (λ n. Pair f xs at (at + 1) (at + 1 + n)) (sym (ap (λ (s : Span). s .nodes) l)) p
+
+    pub sees-sequence : top (score-at xs at) ≡ Sequence → Pair sequence xs at (at + 1) (right-of spans at)
+    sees-sequence e = moved sequence (sequence-at xs whole at h Sequence e refl)
+
+    pub sees-parallel : top (score-at xs at) ≡ Parallel → Pair parallel xs at (at + 1) (right-of spans at)
+    sees-parallel e = moved parallel (parallel-at xs whole at h Parallel e refl)
+
     pub span-at : (n : Node Numbers) → top (score-at xs at) ≡ n → next-span K spans at n ≡ span-of K (score-at xs at)
     span-at (Rest d) e = ap (span-of K) (sym (rest-at xs whole at h (Rest d) e d refl))
     span-at (Primitive p) e = ap (span-of K) (sym (primitive-at xs whole at h (Primitive p) e p refl))

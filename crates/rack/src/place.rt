@@ -4,3 +4,9 @@ pub struct Place {
     pub nodes: u32,
     pub primitives: u32,
 }
+
+// The note of an empty place.
+pub const EMPTY: Place = Place {
+    nodes: 0,
+    primitives: 0,
+};

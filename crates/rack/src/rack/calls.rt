@@ -8,6 +8,7 @@ ghost use Rattle.rack.specs.Shelves.{shelf, scoreAt};
 ghost use Rattle.rack.specs.Calls.{LoadedAt, tellAnswer, clearAnswer, cleared, bytesAt, writeAnswer};
 ghost use Rattle.rack.specs.Written.{FileOf};
 ghost use Rattle.writing.specs.Writes.{writtenOver};
+use crate::place::EMPTY;
 use crate::place::Place;
 use crate::rack::Rack;
 use crate::rack::checks::SEGMENT;
@@ -25,13 +26,9 @@ impl<'a, K: Kind> Rack<'a, K> {
     pub fn new(nodes: &'a mut [Node<K>]) -> Rack<'a, K>
         ensures { λ r. ⌜ shelf (K·Kind .numbersOf) r ≡ replicate (number (now (nodes .entry))) None ⌝ }
     {
-        let empty = Place {
-            nodes: 0,
-            primitives: 0,
-        };
         Rack {
             row: Row { nodes },
-            places: [empty; 8],
+            places: [EMPTY; 8],
         }
     }
 
@@ -68,10 +65,7 @@ impl<'a, K: Kind> Rack<'a, K> {
     {
         self.known(place)?;
         self.holding(place)?;
-        self.places[place as usize] = Place {
-            nodes: 0,
-            primitives: 0,
-        };
+        self.places[place as usize] = EMPTY;
         Ok(())
     }
 

@@ -26,7 +26,7 @@ abbrev sample : ℕ → ℕ → ℕ → Score
 sample offset length way = primitive (four 7 offset length way)
 
 -- ((long+r240)|(r480+short)): one note after the other, each beside a rest
-abbrev turns : Score
+abbrev pub turns : Score
 turns = parallel (sequence long (rest 240)) (sequence (rest 480) short)
 
 pub record Examples : Type 0 where

@@ -5,14 +5,12 @@ use Prim.Native.Nat.{ℕ}
 use Prim.Native.String.{String}
 use lib.Chars.{codes}
 use Rattle.std.specs.declared.result.Result.the-variants.{Ok, Err}
-use Rattle.algebra.specs.Kind.{four}
-use Rattle.algebra.specs.Score.{Score, Score.rest, Score.primitive, Score.sequence, Score.parallel}
 use Rattle.refusals.specs.declared.refusal.Refusal.{Refusal}
 use Rattle.refusals.specs.declared.refusal.Refusal.the-variants.{Misfit, IllegalNumbers, TooLongInFile}
 use Rattle.refusals.specs.declared.refusal.Section.the-variants.{Body}
 use Rattle.refusals.specs.Numbers.{numberOf}
 use Rattle.kinds.specs.Note.{note}
-use Rattle.kinds.specs.Examples.{Examples}
+use Rattle.kinds.specs.Examples.{Examples, turns}
 use Rattle.grammar.specs.Loads.{Loads, fileBytes}
 
 -- A line of a key and what it holds, ended by byte 10.
@@ -33,10 +31,7 @@ pub record Refuses (text : List ℕ) (e : Refusal) (number : ℕ) : Type 0 where
   pub loads : Loads note text (Err e)
   pub numbered : numberOf e ≡ number
 
--- Two notes that take turns, each beside a rest, and their file.
-abbrev pub turns : Score
-turns = parallel (sequence (primitive (four 60 96 480 0)) (rest 240)) (sequence (rest 480) (primitive (four 64 90 240 0)))
-
+-- The file of two notes that take turns, each beside a rest.
 abbrev pub turnsFile : List ℕ
 turnsFile = noteFile "720" "2" "((p60,96,480,0+r240)|(r480+p64,90,240,0))"
 

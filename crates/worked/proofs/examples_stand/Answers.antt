@@ -5,7 +5,7 @@ use Rattle.std.specs.Written.{digits}
 use Rattle.algebra.specs.Kind.{four}
 use Rattle.algebra.specs.Score.{Score.rest, Score.primitive, Score.sequence}
 use Rattle.grammar.specs.Loads.{Loads.refused}
-use Rattle.worked.specs.Worked.{turns}
+use Rattle.kinds.specs.Examples.{turns}
 use Rattle.worked.proofs.Texts.{gives, rest-refused}
 use Rattle.worked.proofs.examples_stand.Needs as need
 

@@ -52,7 +52,7 @@ length-permuted (permuted-cons e p) = ap suc (length-permuted p)
 length-permuted (permuted-swap e d) = refl
 length-permuted (permuted-trans p q) = length-permuted p ∙ length-permuted q
 
-length-placed : (K : KindModel) (s : Score) → length (placed K s) ≡ primitives s
+pub length-placed : (K : KindModel) (s : Score) → length (placed K s) ≡ primitives s
 length-placed K (rest d) = refl
 length-placed K (primitive p) = refl
 length-placed K (sequence a b) = simp (length-append, length-map, length-placed K a, length-placed K b)

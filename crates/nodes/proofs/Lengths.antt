@@ -13,6 +13,8 @@ use Rattle.algebra.specs.Kind.{KindModel, LengthLaws}
 use Rattle.algebra.specs.Score.{Score, Score.rest, Score.primitive, Score.sequence, Score.parallel, Legal, score-length, nodes, primitives}
 use Rattle.algebra.specs.Layout.{seen, view, joined, stack, foremost, score-at, score-of}
 use Rattle.nodes.specs.Held.{bare, Held}
+use Rattle.nodes.proofs.Parts.{part-bare, part-primitives}
+use Rattle.nodes.proofs.Readings.{at, begins}
 
 module _ (K : KindModel) (laws : LengthLaws K) where
   pub at-most : (s : Score) → Legal K s → score-length K s ≤ bare s + 65535 * primitives s
@@ -49,6 +51,17 @@ module _ (K : KindModel) (laws : LengthLaws K) where
 
     pub legal-row : (row : List (Node P)) → Legal K (score-of (view f row))
     legal-row row = foremost-legal (stack (view f row)) (stack-legal row)
+
+    legal-part : (row : List (Node P)) (k : ℕ) → Legal K (score-at (view f row) k)
+    legal-part row k = subst (λ xs. Legal K (score-of xs)) (sym (drop-map (seen f) k row)) (legal-row (drop k row))
+
+    -- the score that begins at a node of a held row is as short as the whole may be
+    pub length-part : (row : List (Node P)) → Held (view f row) → (k : ℕ) → k < length row → score-length K (score-at (view f row) k) ≤ 27918165
+    length-part row held k h =
+        let inside : k < length (view f row) = omega (arith, length-map row (seen f)) in
+        let w = at (view f row) (held .whole) k inside in
+        let is = begins (view f row) (held .whole) k inside in
+        omega (arith, at-most (score-at (view f row) k) (legal-part row k), ap bare is, ap primitives is, part-bare (w .path), part-primitives (w .path), held .short, held .few)
 
     -- far below 2 ^ 32
     pub length-held : (row : List (Node P)) → Held (view f row) → score-length K (score-of (view f row)) ≤ 27918165

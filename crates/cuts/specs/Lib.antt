@@ -1,0 +1,4 @@
+pub mod Parts
+pub mod Ends
+pub mod Padding
+pub mod Counts

@@ -14,16 +14,17 @@ use Rattle.std.specs.declared.option.Option.the-variants.{Some, None}
 use Rattle.algebra.specs.declared.numbers.Numbers.{Numbers}
 use Rattle.algebra.specs.declared.node.Node.{Node}
 use Rattle.algebra.specs.Score.{Score, nodes, primitives}
-use Rattle.algebra.specs.Layout.{preorder, score-of}
-use Rattle.nodes.specs.Held.{bare, heldRow}
+use Rattle.algebra.specs.Layout.{preorder, view, score-of}
+use Rattle.nodes.specs.Held.{bare, Held, heldRow}
 use Rattle.nodes.specs.Rows.{overlaid}
 use Rattle.nodes.proofs.Parts.{length-preorder, some-node}
 use Rattle.nodes.proofs.Overlays.{front-same, back-same, overlaid-before, overlaid-here, overlaid-after, overlaid-length}
 use Rattle.nodes.proofs.Shapes.{test-from, tested-score, score-preorder}
 use Rattle.rack.specs.declared.place.Place.{Place}
-use Rattle.rack.specs.Places.{number, emptyPlace, placeAt, used, sound}
-use Rattle.rack.specs.Shelves.{Shelf, heldAt, shelfOf}
-use Rattle.rack.proofs.Shelves.{AllTested, segment-within, length-shelf, at-any, small-places}
+use Rattle.rack.specs.declared.rack.Rack.{Rack}
+use Rattle.rack.specs.Places.{number, emptyPlace, placeAt, used, sound, AllSound}
+use Rattle.rack.specs.Shelves.{Shelf, heldAt, shelfOf, shelf}
+use Rattle.rack.proofs.Shelves.{AllTested, segment-within, length-shelf, at-any, small-places, number-view, tested-view, sound-from}
 
 -- xs′ is xs but for the segment of one place, where the note is now `place`, which is true and says that it holds `o`
 pub record Placed (xs xs′ : List (Node Numbers)) (to : ℕ) (place : Place) (o : Option Score) : Type 0 where
@@ -85,6 +86,26 @@ module _ (xs xs′ : List (Node Numbers)) (places : List Place) (to : ℕ) (plac
           (λ ne. held-other k k-in ne ∙ sym (at-any xs places k d k-in) ∙ sym (getD-set-other (shelfOf xs places) to k o d ne))
           (cases-eq k to)
 
+-- the same of a rack
+module _ {P : Type 0} (f : P → Numbers) (rack : Rack P) (ns′ : List (Node P)) (to : ℕ) (place : Place) (o : Option Score) (there : to < number (rack .row .nodes .now))
+    (w : Placed (view f (rack .row .nodes .now)) (view f ns′) to place o) where
+  tested-before : AllTested (view f (rack .row .nodes .now)) (rack .places)
+  tested-before = tested-view f (rack .row .nodes .now) (rack .places) (rack .sound)
+
+  there-seen : to < number (view f (rack .row .nodes .now))
+  there-seen = omega (arith, number-view f (rack .row .nodes .now))
+
+  -- its invariant
+  pub rack-sound : (length (set (rack .places) to place) ≡ 8) × (AllSound ns′ (set (rack .places) to place) × Unit {0})
+  rack-sound = (
+    length-set (rack .places) to place ∙ rack .eight,
+    (sound-from f ns′ (set (rack .places) to place) (sound-after (view f (rack .row .nodes .now)) (view f ns′) (rack .places) to place o (rack .eight) tested-before there-seen w), tt),
+  )
+
+  -- what its places hold
+  pub rack-holds : shelfOf (view f ns′) (set (rack .places) to place) ≡ set (shelf f rack) to o
+  rack-holds = shelf-after (view f (rack .row .nodes .now)) (view f ns′) (rack .places) to place o (rack .eight) tested-before there-seen w
+
 -- a place is emptied by its note alone
 pub placed-nothing : (xs : List (Node Numbers)) (to : ℕ) → Placed xs xs to emptyPlace None
 placed-nothing xs to = record { as-long = refl; before = refl; beyond = refl; here-sound = refl; here-held = refl }
@@ -108,3 +129,13 @@ placed-score xs xs′ to s h e small few short =
           ∙ test-from row (nodes s) (primitives s) (tested-score s small few short);
       here-held = ap (λ b. cond b None (Some (score-of (take (nodes s) (drop at xs′))))) some ∙ ap (λ ys. Some (score-of ys)) here ∙ ap Some (score-preorder s);
     }
+
+-- a held row written over the front of a segment
+pub placed-row : (xs xs′ : List (Node Numbers)) (to : ℕ) (row : List (Node Numbers)) → Held row → to < number xs → xs′ ≡ overlaid xs (to * 1023) row
+    → (n m : ℕ) → length row ≡ n → m ≡ primitives (score-of row) → Placed xs xs′ to (record { nodes = n; primitives = m }) (Some (score-of row))
+placed-row xs xs′ to row held h e n m is count =
+    let s = score-of row in
+    let size : nodes s ≡ n = sym (length-preorder s) ∙ sym (ap length (held .whole)) ∙ is in
+    let same : record { nodes = nodes s; primitives = primitives s } ≡ record { nodes = n; primitives = m } = λ i. record { nodes = size i; primitives = sym count i } in
+    subst (λ (q : Place). Placed xs xs′ to q (Some s)) same
+    (placed-score xs xs′ to s h (e ∙ ap (overlaid xs (to * 1023)) (held .whole)) (omega (arith, held .small, size, is)) (held .few) (held .short))

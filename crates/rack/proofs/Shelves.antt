@@ -1,7 +1,7 @@
 -- What a rack's places hold, and what is noted of it.
 use mathlib.Core.Path.{_≡_, refl, sym, ap, _∙_, subst}
 use mathlib.Core.Bool.{Bool, true, false, cond, not, _||_}
-use mathlib.Core.List.{List, [], _∷_, map}
+use mathlib.Core.List.{List, [], _∷_, _++_, map}
 use Prim.Native.Nat.{ℕ, zero, suc, _+_, _*_, _/_, _≤_, _<_, min}
 use native.Mathlib.Omega.{arith}
 use lib.Dec.{leb, ltb, eqb}
@@ -26,7 +26,7 @@ use Rattle.refusals.specs.declared.refusal.Refusal.the-variants.{NoSuchPlace, E
 use Rattle.rack.specs.declared.place.Place.{Place}
 use Rattle.rack.specs.Places.{number, emptyPlace, placeAt, used, sound, AllSound}
 use Rattle.rack.specs.Shelves.{Shelf, at, heldAt, shelfOf, scoreIn}
-use Rattle.rack.specs.Checks.{known, holding, vacant, passed, unless, all}
+use Rattle.rack.specs.Checks.{Check, known, holding, vacant, passed, unless, all}
 use Rattle.rack.specs.Calls.{clearAnswer}
 
 -- the segment of a place lies within the nodes
@@ -53,6 +53,12 @@ module _ (shelf : Shelf) (p : ℕ) where
 
   pub vacant-no : (s : Score) → at shelf p ≡ Some s → vacant shelf p ≡ Err (FullPlace p)
   vacant-no s e = ap (λ o. unless (not (isSome o)) (FullPlace p)) e
+
+-- checks that pass, and then others
+pub all-after : (xs ys : List Check) → all xs ≡ passed → all (xs ++ ys) ≡ all ys
+all-after [] ys h = refl
+all-after (Ok u ∷ xs) ys h = all-after xs ys h
+all-after (Err e ∷ xs) ys h = absurd (grind arith)
 
 module _ (xs : List (Node Numbers)) (places : List Place) where
   pub length-shelf : length (shelfOf xs places) ≡ number xs

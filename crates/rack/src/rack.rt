@@ -5,6 +5,7 @@ use crate::place::Place;
 use crate::row::Row;
 use kinds::kind::Kind;
 
+mod build;
 mod calls;
 mod checks;
 

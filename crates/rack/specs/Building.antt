@@ -17,7 +17,7 @@ use Rattle.rack.specs.Joints.{joined}
 abbrev pub restAnswer : Shelf → ℕ → ℕ → Check
 restAnswer shelf to ticks = all (unless (leb ticks 16777215) (BadValue ticks) ∷ known shelf to ∷ vacant shelf to ∷ [])
 
--- Join: 21 for the destination and for each of the two places, 22 for each of the two, 23, 26, 27.
+-- The places of a join: 21 for the destination and for each of the two, 22 for each of the two, 23.
 abbrev pub joinable : Shelf → ℕ → ℕ → ℕ → List Check
 joinable shelf to a b = known shelf to ∷ known shelf a ∷ known shelf b ∷ holding shelf a ∷ holding shelf b ∷ vacant shelf to ∷ []
 
@@ -30,8 +30,10 @@ pub record Joinable {K : Type 0} (rack : Rack K) (to a b : ℕ) : Type 0 where
   pub second-held : 0 < placeAt (rack .places) b .nodes
   pub to-empty : placeAt (rack .places) to .nodes ≡ 0
 
+-- The result of a join.
 abbrev pub joinedAt : Joint → Shelf → ℕ → ℕ → Score
 joinedAt joint shelf a b = joined joint (scoreAt shelf a) (scoreAt shelf b)
 
+-- Join: 21, 22 and 23 by the places, and 26 and 27 by the result.
 abbrev pub joinAnswer : KindModel → Joint → Shelf → ℕ → ℕ → ℕ → Check
 joinAnswer K joint shelf to a b = all (joinable shelf to a b ++ limits K (joinedAt joint shelf a b))

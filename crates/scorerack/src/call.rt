@@ -11,6 +11,9 @@ pub enum Opening {
 #[derive(Clone, Copy)]
 pub enum Call<'a> {
     Load { to: u32, file: &'a str },
+    Rest { to: u32, ticks: u32 },
+    Sequence { to: u32, first: u32, second: u32 },
+    Parallel { to: u32, first: u32, second: u32 },
     Tell { place: u32 },
     Clear { place: u32 },
     Write { place: u32, room: u32 },
@@ -48,18 +51,26 @@ pub fn parse<'a>(line: &'a str) -> Option<Call<'a>> {
     let mut words = line.split(' ');
     let name = words.next()?;
     let place = number(words.next())?;
-    let last = words.next();
+    let second = words.next();
+    let third = words.next();
     if words.next().is_some() {
         return None;
     }
-    match (name, last) {
-        ("load", Some(file)) => Some(Call::Load { to: place, file }),
-        ("tell", None) => Some(Call::Tell { place }),
-        ("clear", None) => Some(Call::Clear { place }),
-        ("write", Some(word)) => Some(Call::Write {
-            place,
-            room: number(Some(word))?,
-        }),
+    match (name, second, third) {
+        ("load", Some(file), None) => Some(Call::Load { to: place, file }),
+        ("tell", None, None) => Some(Call::Tell { place }),
+        ("clear", None, None) => Some(Call::Clear { place }),
+        _ => parse_numbers(name, place, number(second)?, third),
+    }
+}
+
+// The call of a name and two or three numbers.
+fn parse_numbers<'a>(name: &str, place: u32, second: u32, third: Option<&str>) -> Option<Call<'a>> {
+    match (name, third) {
+        ("rest", None) => Some(Call::Rest { to: place, ticks: second }),
+        ("write", None) => Some(Call::Write { place, room: second }),
+        ("seq", Some(word)) => Some(Call::Sequence { to: place, first: second, second: number(Some(word))? }),
+        ("par", Some(word)) => Some(Call::Parallel { to: place, first: second, second: number(Some(word))? }),
         _ => None,
     }
 }

@@ -51,7 +51,7 @@ fn own_padding<K: Kind>(row: &[Node<K>], spans: &[Span], at: usize) -> u32
         Parted::Rest(_) => 0,
         Parted::Primitive(_) => 0,
         Parted::Sequence(_, _) => 0,
-        Parted::Parallel(left, right) => { if left.length == right.length { 0 } else { 2 } }
+        Parted::Parallel(left, right) => if left.length == right.length { 0 } else { 2 },
     }
 }
 

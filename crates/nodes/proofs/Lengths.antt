@@ -4,7 +4,7 @@ use mathlib.Core.Bool.{true}
 use mathlib.Core.List.{List, [], _∷_, map}
 use Prim.Native.Nat.{ℕ, _+_, _*_, _<_, _≤_}
 use native.Mathlib.Omega.{arith}
-use lib.ListN.{length, drop}
+use lib.ListN.{length, getD, drop}
 use Rattle.std.proofs.shelf.Lists.{length-map, drop-map}
 use Rattle.algebra.specs.declared.numbers.Numbers.{Numbers}
 use Rattle.algebra.specs.declared.node.Node.{Node}
@@ -12,9 +12,11 @@ use Rattle.algebra.specs.declared.node.Node.the-variants.{Rest, Primitive, Sequ
 use Rattle.algebra.specs.Kind.{KindModel, LengthLaws}
 use Rattle.algebra.specs.Score.{Score, Score.rest, Score.primitive, Score.sequence, Score.parallel, Legal, score-length, nodes, primitives}
 use Rattle.algebra.specs.Layout.{seen, view, joined, stack, foremost, score-at, score-of}
+use Rattle.nodes.specs.declared.span.Span.{Span}
 use Rattle.nodes.specs.Held.{bare, Held}
-use Rattle.nodes.proofs.Parts.{part-bare, part-primitives}
-use Rattle.nodes.proofs.Readings.{at, begins}
+use Rattle.nodes.specs.Spans.{no-span, Spanned}
+use Rattle.nodes.proofs.Parts.{some-node, part-bare, part-primitives}
+use Rattle.nodes.proofs.Readings.{long, at, begins}
 
 module _ (K : KindModel) (laws : LengthLaws K) where
   pub at-most : (s : Score) → Legal K s → score-length K s ≤ bare s + 65535 * primitives s
@@ -49,23 +51,30 @@ module _ (K : KindModel) (laws : LengthLaws K) where
     stack-legal (Sequence ∷ row) = joined-sequence (stack (view f row)) (stack-legal row)
     stack-legal (Parallel ∷ row) = joined-parallel (stack (view f row)) (stack-legal row)
 
+    -- the score that begins at any node
+    pub legal-at : (row : List (Node P)) (k : ℕ) → Legal K (score-at (view f row) k)
+    legal-at row k = subst (λ ys. Legal K (foremost (stack ys))) (sym (drop-map (seen f) k row)) (foremost-legal (stack (view f (drop k row))) (stack-legal (drop k row)))
+
     pub legal-row : (row : List (Node P)) → Legal K (score-of (view f row))
-    legal-row row = foremost-legal (stack (view f row)) (stack-legal row)
+    legal-row row = legal-at row 0
 
-    legal-part : (row : List (Node P)) (k : ℕ) → Legal K (score-at (view f row) k)
-    legal-part row k = subst (λ xs. Legal K (score-of xs)) (sym (drop-map (seen f) k row)) (legal-row (drop k row))
+    module _ (row : List (Node P)) (held : Held (view f row)) where
+      -- far below 2 ^ 32
+      pub length-part : (k : ℕ) → k < length row → score-length K (score-at (view f row) k) ≤ 27918165
+      length-part k h =
+          let xs = view f row in
+          let i : k < length xs = omega (arith, length-map row (seen f)) in
+          let w = at xs (held .whole) k i in
+          let is = begins xs (held .whole) k i in
+          omega (arith, at-most (score-at xs k) (legal-at row k), ap bare is, part-bare (w .path), held .short, ap primitives is, part-primitives (w .path), held .few)
 
-    -- the score that begins at a node of a held row is as short as the whole may be
-    pub length-part : (row : List (Node P)) → Held (view f row) → (k : ℕ) → k < length row → score-length K (score-at (view f row) k) ≤ 27918165
-    length-part row held k h =
-        let inside : k < length (view f row) = omega (arith, length-map row (seen f)) in
-        let w = at (view f row) (held .whole) k inside in
-        let is = begins (view f row) (held .whole) k inside in
-        omega (arith, at-most (score-at (view f row) k) (legal-part row k), ap bare is, ap primitives is, part-bare (w .path), part-primitives (w .path), held .short, held .few)
+      pub length-held : score-length K (score-of (view f row)) ≤ 27918165
+      length-held = length-part 0 (omega (arith, length-map row (seen f), long (view f row) (held .whole), some-node (score-of (view f row))))
 
-    -- far below 2 ^ 32
-    pub length-held : (row : List (Node P)) → Held (view f row) → score-length K (score-of (view f row)) ≤ 27918165
-    length-held row held = omega (arith, at-most (score-of (view f row)) (legal-row row), held .short, held .few)
+      -- so the table has the length itself
+      pub length-listed : (spans : List Span) → Spanned K (view f row) spans 0 → (k : ℕ) → k < length row → getD spans k no-span .length ≡ score-length K (score-at (view f row) k)
+      length-listed spans spanned k h =
+          ap (λ (s : Span). s .length) (spanned k (omega arith) (omega (arith, length-map row (seen f)))) ∙ omega (arith, length-part k h)
 
 -- with each primitive counted as 0 a score is no longer
 pub bare-at-most : (K : KindModel) (s : Score) → bare s ≤ score-length K s

@@ -83,3 +83,7 @@ module _ (K : KindModel) (xs : List (Node Numbers)) (whole : Whole xs) (small : 
       ⊎-elim (λ same. subst (λ k. getD (set spans at s) k no-span ≡ span-of K (score-at xs k)) (sym same) (getD-set-same spans at s no-span (omega arith) ∙ e))
       (λ ne. getD-set-other spans at i s no-span ne ∙ behind i (omega arith) j)
       (cases-eq i at)
+
+-- how many nodes a score has, by the table
+pub nodes-listed : (K : KindModel) (xs : List (Node Numbers)) (spans : List Span) → Spanned K xs spans 0 → (k : ℕ) → k < length xs → getD spans k no-span .nodes ≡ nodes (score-at xs k)
+nodes-listed K xs spans spanned k h = ap (λ (s : Span). s .nodes) (spanned k (omega arith) h)

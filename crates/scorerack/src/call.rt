@@ -67,10 +67,24 @@ pub fn parse<'a>(line: &'a str) -> Option<Call<'a>> {
 // The call of a name and two or three numbers.
 fn parse_numbers<'a>(name: &str, place: u32, second: u32, third: Option<&str>) -> Option<Call<'a>> {
     match (name, third) {
-        ("rest", None) => Some(Call::Rest { to: place, ticks: second }),
-        ("write", None) => Some(Call::Write { place, room: second }),
-        ("seq", Some(word)) => Some(Call::Sequence { to: place, first: second, second: number(Some(word))? }),
-        ("par", Some(word)) => Some(Call::Parallel { to: place, first: second, second: number(Some(word))? }),
+        ("rest", None) => Some(Call::Rest {
+            to: place,
+            ticks: second,
+        }),
+        ("write", None) => Some(Call::Write {
+            place,
+            room: second,
+        }),
+        ("seq", Some(word)) => Some(Call::Sequence {
+            to: place,
+            first: second,
+            second: number(Some(word))?,
+        }),
+        ("par", Some(word)) => Some(Call::Parallel {
+            to: place,
+            first: second,
+            second: number(Some(word))?,
+        }),
         _ => None,
     }
 }

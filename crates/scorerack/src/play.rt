@@ -90,8 +90,14 @@ fn carry_out<K: Kind>(
     match parse(text) {
         Some(Call::Load { to, file }) => load_file(rt, rack, line, to, file),
         Some(Call::Rest { to, ticks }) => say(rt, rack.rest(to, ticks)),
-        Some(Call::Sequence { to, first, second }) => say(rt, rack.join_sequence(to, first, second)),
-        Some(Call::Parallel { to, first, second }) => say(rt, rack.join_parallel(to, first, second)),
+        Some(Call::Sequence { to, first, second }) => say(
+            rt,
+            rack.join_sequence(to, first, second),
+        ),
+        Some(Call::Parallel { to, first, second }) => say(
+            rt,
+            rack.join_parallel(to, first, second),
+        ),
         Some(Call::Tell { place }) => tell(rt, rack, place),
         Some(Call::Clear { place }) => say(rt, rack.clear(place)),
         Some(Call::Write { place, room }) => write(rt, rack, place, room),

@@ -1,14 +1,12 @@
-use mathlib.Core.Path.{_≡_, refl, sym, ap, _∙_}
-use Prim.Native.Nat.{_+_, _<_, _≤_}
+use mathlib.Core.Path.{ap, _∙_}
+use Prim.Native.Nat.{_<_}
 use native.Mathlib.Omega.{arith}
-use lib.ListN.{length, getD, take, drop}
+use lib.ListN.{length, take, drop}
 use Rattle.std.proofs.shelf.Lists.{length-map}
-use Rattle.algebra.specs.Score.{nodes}
-use Rattle.nodes.specs.declared.span.Span.{Span}
 use Rattle.algebra.specs.Layout.{seen, view, score-at}
-use Rattle.nodes.specs.Spans.{no-span}
 use Rattle.nodes.proofs.Parts.{length-preorder}
 use Rattle.nodes.proofs.Readings.{ends-inside, nodes-there}
+use Rattle.nodes.proofs.Tables.{nodes-listed}
 use Rattle.nodes.proofs.Writings.{wrote-as}
 use Rattle.nodes.proofs.write.copy_score.Needs as need
 
@@ -17,7 +15,7 @@ copy-nodes-requires g c κs =
     let xs = view (g .K·Kind .numbersOf) (c .args .row .now) in
     let n = length-map (c .args .row .now) (seen (g .K·Kind .numbersOf)) in
     let i : c .args .at < length xs = omega (arith, n, c .pre .inside) in
-    let s : getD (c .args .spans .now) (c .args .at) no-span .nodes ≡ nodes (score-at xs (c .args .at)) = ap (λ (s : Span). s .nodes) (c .pre .spanned (c .args .at) (omega arith) i) in
+    let s = nodes-listed (g .K·Kind .model) xs (c .args .spans .now) (c .pre .spanned) (c .args .at) i in
     record {
       within = omega (arith, n, s, ends-inside xs (c .pre .whole) (c .args .at) i);
       fits = omega (arith, s, c .pre .fits, length-preorder (score-at xs (c .args .at)));
@@ -28,5 +26,5 @@ returns g c =
     let xs = view (g .K·Kind .numbersOf) (c .args .row .now) in
     let n = length-map (c .args .row .now) (seen (g .K·Kind .numbersOf)) in
     let i : c .args .at < length xs = omega (arith, n, c .pre .inside) in
-    let s : getD (c .args .spans .now) (c .args .at) no-span .nodes ≡ nodes (score-at xs (c .args .at)) = ap (λ (s : Span). s .nodes) (c .pre .spanned (c .args .at) (omega arith) i) in
+    let s = nodes-listed (g .K·Kind .model) xs (c .args .spans .now) (c .pre .spanned) (c .args .at) i in
     wrote-as _ _ (c .args .to) _ (ap (λ k. take k (drop (c .args .at) xs)) s ∙ nodes-there xs (c .pre .whole) (c .args .at) i) (c .copy-nodes .ensures)

@@ -1,3 +1,4 @@
+// Nodes as they stand in a file.
 use algebra::node::Node;
 use algebra::numbers::Numbers;
 

@@ -1,3 +1,4 @@
+// The interface of a kind of primitive.
 ghost use mathlib.Core.Path.{_≡_};
 ghost use mathlib.Core.Bool.{true};
 ghost use Rattle.algebra.specs.declared.numbers.Numbers.{Numbers};

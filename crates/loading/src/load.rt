@@ -1,3 +1,4 @@
+// From a headed reading to checked items.
 ghost use Rattle.grammar.specs.Drafts.{drafted};
 ghost use Rattle.loading.specs.Gives.{Gives};
 use crate::checking::Loaded;

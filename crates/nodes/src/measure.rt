@@ -1,3 +1,4 @@
+// The length of a held score.
 ghost use mathlib.Core.Path.{_≡_};
 ghost use Rattle.algebra.specs.Layout.{view, score-of};
 ghost use Rattle.algebra.specs.Score.{score-length};

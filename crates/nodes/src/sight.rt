@@ -1,3 +1,4 @@
+// What stands at a node.
 ghost use Prim.Native.Nat.{_+_, _<_, _≤_};
 ghost use lib.ListN.{length};
 ghost use Rattle.algebra.specs.Layout.{view};

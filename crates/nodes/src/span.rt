@@ -1,3 +1,4 @@
+// The span of the score that begins at a node.
 ghost use mathlib.Core.Path.{_≡_};
 ghost use Rattle.algebra.specs.Layout.{seen};
 ghost use Rattle.nodes.specs.Spans.{Inside, next-span};

@@ -1,3 +1,4 @@
+// The table of spans of a row.
 ghost use Prim.Native.Nat.{_≤_};
 ghost use lib.ListN.{length};
 ghost use Rattle.algebra.specs.Layout.{view};

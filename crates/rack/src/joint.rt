@@ -1,3 +1,4 @@
+// Sequence and parallel, as a join names them.
 ghost use mathlib.Core.Path.{_≡_};
 ghost use Prim.Native.Nat.{_+_, _<_, _^_};
 ghost use Rattle.rack.specs.Joints.{nodeOf, lengthOf};

@@ -1,3 +1,4 @@
+// The rack.
 ghost use mathlib.Core.Path.{_≡_};
 ghost use lib.ListN.{length};
 ghost use Rattle.rack.specs.Places.{AllSound};

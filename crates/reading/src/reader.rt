@@ -1,3 +1,4 @@
+// The reader of a text, which its modules teach words, numbers, lines and terms.
 ghost use Prim.Native.Nat.{_≤_};
 ghost use lib.ListN.{length};
 use refusals::refusal::Section;

@@ -1,3 +1,4 @@
+// The words that a reader hands out.
 ghost use mathlib.Core.Path.{_≡_};
 ghost use Rattle.reading.specs.Taking.{lexemeOf};
 

@@ -1,3 +1,4 @@
+// The refusals, each with its number, part and detail.
 ghost use mathlib.Core.Path.{_≡_};
 ghost use Rattle.refusals.specs.Numbers.{numberOf, partOf, detailOf};
 

@@ -1,3 +1,4 @@
+// Sequence and parallel, as a rule names them.
 ghost use mathlib.Core.Path.{_≡_};
 ghost use Rattle.rewriting.specs.Joins.{joinNode};
 use algebra::node::Node;

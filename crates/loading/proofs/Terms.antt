@@ -1,6 +1,6 @@
 -- The items of a term: its nodes, its primitives, where it begins, and how far it has to be looked at.
 use Rattle.std.proofs.Common.{◌≡◌, ℕ, zero, suc, ◌+◌, ◌-◌, cond, ◌&&◌, ◌||◌, eqb, List, [], ◌∷◌, ◌++◌, length, get_or, take, Some, Option, sym, refl, ap, ◌∙◌, arith}
-use Rattle.std.proofs.lemmas.List.{map_append, append-nil}
+use Rattle.std.proofs.lemmas.List.{map-append, append-nil}
 use Rattle.algebra.specs.declared.numbers.Numbers.{Numbers}
 use Rattle.algebra.specs.declared.node.Node.{Node}
 use Rattle.algebra.specs.declared.node.Node.TheVariants.{Sequence, Parallel}
@@ -19,10 +19,10 @@ nodes_items at (rest d) = refl
 nodes_items at (primitive p) = refl
 nodes_items at (sequence a b) =
     let from = at + 1 + length (print a) + 1 in
-    ap (λ xs. Sequence ∷ xs) (map_append (λ (i : Item). i.node) (items (at + 1) a) (items from b) ∙ (λ i. nodes_items (at + 1) a i ++ nodes_items from b i))
+    ap (λ xs. Sequence ∷ xs) (map-append (λ (i : Item). i.node) (items (at + 1) a) (items from b) ∙ (λ i. nodes_items (at + 1) a i ++ nodes_items from b i))
 nodes_items at (parallel a b) =
     let from = at + 1 + length (print a) + 1 in
-    ap (λ xs. Parallel ∷ xs) (map_append (λ (i : Item). i.node) (items (at + 1) a) (items from b) ∙ (λ i. nodes_items (at + 1) a i ++ nodes_items from b i))
+    ap (λ xs. Parallel ∷ xs) (map-append (λ (i : Item). i.node) (items (at + 1) a) (items from b) ∙ (λ i. nodes_items (at + 1) a i ++ nodes_items from b i))
 
 primitives_append : (is js : List Item) → primitive_items (is ++ js) ≡ primitive_items is + primitive_items js
 primitives_append [] js = omega arith

@@ -1,6 +1,6 @@
 -- One write after another.
 use Rattle.std.proofs.Common.{◌≡◌, ℕ, ◌+◌, ◌-◌, ◌<◌, ◌≤◌, List, [], ◌∷◌, ◌++◌, map, length, take, drop, set, sym, refl, ap, ◌∙◌, subst, arith}
-use Rattle.std.proofs.lemmas.List.{length-map, length-append, map-set, map_append, take-map, drop-map, length-take-le, length-drop}
+use Rattle.std.proofs.lemmas.List.{length-map, length-append, map-set, map-append, take-map, drop-map, length-take-le, length-drop}
 use Rattle.algebra.specs.declared.numbers.Numbers.{Numbers}
 use Rattle.algebra.specs.declared.node.Node.{Node}
 use Rattle.algebra.specs.Layout.{seen, view}
@@ -35,9 +35,9 @@ module _ {P : Type 0} (f : P → Numbers) where
       let n : length zs ≡ count = length-take-le count (drop at row) (omega (arith, length-drop at row)) in
       let m : length (view f zs) ≡ count = length-map zs (seen f) ∙ n in
       wrote_as (view f xs) (view f ys) to (to + count) (sym z) (record {
-        row = ap (view f) e ∙ map_append (seen f) (take to xs) (zs ++ drop (to + length zs) xs)
+        row = ap (view f) e ∙ map-append (seen f) (take to xs) (zs ++ drop (to + length zs) xs)
             ∙ ap (λ us. us ++ view f (zs ++ drop (to + length zs) xs)) (sym (take-map (seen f) to xs))
-            ∙ ap (λ us. take to (view f xs) ++ us) (map_append (seen f) zs (drop (to + length zs) xs))
+            ∙ ap (λ us. take to (view f xs) ++ us) (map-append (seen f) zs (drop (to + length zs) xs))
             ∙ ap (λ us. take to (view f xs) ++ (view f zs ++ us)) (sym (drop-map (seen f) (to + length zs) xs))
             ∙ ap (λ k. take to (view f xs) ++ (view f zs ++ drop (to + k) (view f xs))) (sym (length-map zs (seen f)));
         ends = omega (arith, m);

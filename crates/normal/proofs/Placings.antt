@@ -2,7 +2,7 @@
 use Rattle.std.proofs.Common.{◌≡◌, ℕ, ◌+◌, ◌<◌, ◌≤◌, List, [], ◌∷◌, ◌++◌, map, length, get_or, take, drop, set, sym, refl, ap, ◌∙◌, subst, arith}
 use Rattle.std.specs.List.{AllByRecursion as All}
 use Rattle.std.proofs.ByRecursion.{All-append, All-map}
-use Rattle.std.proofs.lemmas.List.{length-map, map_append, map-set, take-map, take_at}
+use Rattle.std.proofs.lemmas.List.{length-map, map-append, map-set, take-map, take_at}
 use Rattle.algebra.specs.declared.numbers.Numbers.{Numbers}
 use Rattle.algebra.specs.declared.node.Node.{Node}
 use Rattle.algebra.specs.Kind.{KindModel, LegalNumbers}
@@ -39,10 +39,10 @@ module _ (K : KindModel) where
 
   pub from_sequence : (m : ℕ) (a b : Score) → placed_from m (sequence a b) ≡ placed_from m a ++ placed_from (m + score_length K a) b
   from_sequence m a b =
-      map_append (later m) (placed K a) (map (later (score_length K a)) (placed K b)) ∙ ap (λ ys. placed_from m a ++ ys) (later_later m (score_length K a) (placed K b))
+      map-append (later m) (placed K a) (map (later (score_length K a)) (placed K b)) ∙ ap (λ ys. placed_from m a ++ ys) (later_later m (score_length K a) (placed K b))
 
   pub from_parallel : (m : ℕ) (a b : Score) → placed_from m (parallel a b) ≡ placed_from m a ++ placed_from m b
-  from_parallel m a b = map_append (later m) (placed K a) (placed K b)
+  from_parallel m a b = map-append (later m) (placed K a) (placed K b)
 
   pub from_primitive : (m : ℕ) (p : Numbers) → placed_from m (primitive p) ≡ record { onset = m; what = p } ∷ []
   from_primitive m p = let same : m + 0 ≡ m = omega arith in λ i. record { onset = same i; what = p } ∷ []

@@ -1,7 +1,7 @@
 -- Those with a partner, and those without, as a loop over a list finds them.
 use Rattle.std.proofs.Common.{◌≡◌, ℕ, ◌+◌, ◌<◌, ◌≤◌, Bool, true, false, cond, List, [], ◌∷◌, ◌++◌, length, get_or, take, drop, sym, refl, ap, ◌∙◌, append-nil, arith}
 use mathlib.Core.Bool.{beq}
-use Rattle.std.proofs.lemmas.List.{take_more, map_append, length-append, take-append-drop}
+use Rattle.std.proofs.lemmas.List.{take_more, map-append, length-append, take-append-drop}
 use Rattle.algebra.specs.Bag.{has_partner}
 use Rattle.algebra.specs.Score.{Placed, same_placed}
 use Rattle.nodes.specs.Rows.{overlaid, Wrote}
@@ -56,7 +56,7 @@ module _ (want : Bool) (other : List Placed) (list : List PlacedNumbers) (i : �
   upto k = all_placed (take k list)
 
   upto_more : upto (i + 1) ≡ upto i ++ (placed_of (get_or list i d) ∷ [])
-  upto_more = ap all_placed (take_more list i d h) ∙ map_append placed_of (take i list) (get_or list i d ∷ [])
+  upto_more = ap all_placed (take_more list i d h) ∙ map-append placed_of (take i list) (get_or list i d ∷ [])
 
   -- what came before the next
   pub passed_next : passed [] (upto (i + 1)) ≡ placed_of (get_or list i d) ∷ passed [] (upto i)
@@ -67,7 +67,7 @@ module _ (want : Bool) (other : List Placed) (list : List PlacedNumbers) (i : �
 
   chosen_within : length (chosen_of want other [] (upto (i + 1))) ≤ length (chosen want other [] (all_placed list))
   chosen_within =
-      let parts : all_placed list ≡ upto (i + 1) ++ all_placed (drop (i + 1) list) = ap all_placed (sym (take-append-drop (i + 1) list)) ∙ map_append placed_of (take (i + 1) list) (drop (i + 1) list) in
+      let parts : all_placed list ≡ upto (i + 1) ++ all_placed (drop (i + 1) list) = ap all_placed (sym (take-append-drop (i + 1) list)) ∙ map-append placed_of (take (i + 1) list) (drop (i + 1) list) in
       let all = sym (chosen_is want other [] (all_placed list)) ∙ ap (chosen_of want other []) parts ∙ chosen_append want other [] (upto (i + 1)) (all_placed (drop (i + 1) list)) in
       omega (arith, ap length all, length-append (chosen_of want other [] (upto (i + 1))) (chosen_of want other (passed [] (upto (i + 1))) (all_placed (drop (i + 1) list))))
 

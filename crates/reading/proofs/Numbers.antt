@@ -1,6 +1,6 @@
 -- Numbers in base ten.
 use Rattle.std.proofs.Common.{◌≡◌, ℕ, ◌+◌, ◌-◌, ◌*◌, ◌/◌, ◌%◌, ◌^◌, ◌<◌, ◌≤◌, List, [], ◌∷◌, ◌++◌, map, length, get_or, take, drop, decimal, sym, refl, ap, ◌∙◌, subst, ⊎_elim, append_assoc, append-nil, arith, take-append-drop}
-use mathlib.Core.List.{map_append, append_cancel_left}
+use mathlib.Core.List.{map-append, append_cancel_left}
 use Rattle.std.specs.Char.{digit_value}
 use Rattle.std.specs.Int.Digits.{number_from_digits, number_from_digits_after}
 use Rattle.std.specs.List.{AllByRecursion as All}
@@ -38,7 +38,7 @@ pub front_le : (m n : ℕ) (x : List ℕ) → m < 2 ^ 64 → n < 2 ^ 64 → deci
 front_le m n x a b e =
     let at : (k : ℕ) → k < 2 ^ 64 → number_from_digits 10 (map digit_value (decimal k)) ≡ k = λ k h. sym (digits_value_is 10 (decimal k)) ∙ (decimal_is_IsNumeral k h).1 in
     let long : number_from_digits 10 (map digit_value (decimal n)) ≡ number_from_digits_after 10 (number_from_digits 10 (map digit_value (decimal m))) (map digit_value x) =
-    ap (λ l. number_from_digits 10 (map digit_value l)) e ∙ ap (number_from_digits 10) (map_append digit_value (decimal m) x) ∙ number_after_append 10 0 (map digit_value (decimal m)) (map digit_value x) in
+    ap (λ l. number_from_digits 10 (map digit_value l)) e ∙ ap (number_from_digits 10) (map-append digit_value (decimal m) x) ∙ number_after_append 10 0 (map digit_value (decimal m)) (map digit_value x) in
     omega (arith, at m a, at n b, long, number_after_ge 10 (number_from_digits 10 (map digit_value (decimal m))) (map digit_value x) (omega arith))
 
 -- the first i digits are read, and make v

@@ -11,7 +11,7 @@ use Rattle.worked.proofs.examples_stand.Goals as goal
 pub returns : goal.returns
 unfolding digits
 returns c = record {
-  kinds = c.examples-stand.ensures;
+  kinds = c.examples_stand.ensures;
   long_score = record { loads = gives 0 0 (sequence (rest 16777215) (rest 1)) (search rules) (search rules); numbered = refl };
   long_rest = record { loads = refused rest_refused; numbered = refl };
   high_note = record { loads = gives 0 0 (primitive (four 128 96 480 0)) (search rules) (search rules); numbered = refl };

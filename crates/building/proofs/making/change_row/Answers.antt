@@ -10,43 +10,43 @@ use Rattle.building.proofs.Changing.{changed_length_lem}
 use Rattle.building.proofs.Rows.{refused_few, wrote_front, made_from}
 use Rattle.building.proofs.making.change_row.Goals as goal
 
-pub fill-spans-requires : goal.fill-spans-requires
-fill-spans-requires g c =
+pub fill_spans-requires : goal.fill_spans-requires
+fill_spans-requires g c =
     let same = length-map c.args.row.now (seen g.K.Kind.numbers_of) in
     record { whole = c.requires.held.whole; small = omega (arith, c.requires.held.small); room = omega (arith, c.requires.held.small) }
 
-pub check-few-requires : goal.check-few-requires
-check-few-requires g c =
+pub check_few-requires : goal.check_few-requires
+check_few-requires g c =
     let same = length-map c.args.row.now (seen g.K.Kind.numbers_of) in
-    record { held = c.requires.held; room = omega (arith, c.requires.held.small, c.fill-spans.auto.spans); spanned = c.fill-spans.ensures }
+    record { held = c.requires.held; room = omega (arith, c.requires.held.small, c.fill_spans.auto.spans); spanned = c.fill_spans.ensures }
 
-pub change-into-nodes-requires : goal.change-into-nodes-requires
-change-into-nodes-requires g c =
+pub change_into-nodes-requires : goal.change_into-nodes-requires
+change_into-nodes-requires g c =
     let K = g.K.Kind.model in
     let xs = view g.K.Kind.numbers_of c.args.row.now in
     let same = length-map c.args.row.now (seen g.K.Kind.numbers_of) in
     record {
       held = c.requires.held;
-      room = omega (arith, c.requires.held.small, c.fill-spans.auto.spans);
-      spanned = c.fill-spans.ensures;
+      room = omega (arith, c.requires.held.small, c.fill_spans.auto.spans);
+      spanned = c.fill_spans.ensures;
       some = omega (arith, long xs c.requires.held.whole, some_node (score_of xs));
       wide = c.requires.wide;
-      fits = omega (arith, c.in-ok-check-few.ensures.fits, length_preorder (changed K c.args.change (score_of xs)), c.requires.wide);
+      fits = omega (arith, c.in_ok-check_few.ensures.fits, length_preorder (changed K c.args.change (score_of xs)), c.requires.wide);
     }
 
-pub size-within-requires : goal.size-within-requires
-size-within-requires g c =
+pub size_within-requires : goal.size_within-requires
+size_within-requires g c =
     let size = length_preorder (changed g.K.Kind.model c.args.change (score_of (view g.K.Kind.numbers_of c.args.row.now))) in
-    let fits = c.in-ok-check-few.ensures.fits in
-    let ends = c.change-into-nodes.ensures.ends in
-    record { inside = omega (arith, size, fits, ends, c.change-into-nodes.auto.target, c.requires.wide); small = omega (arith, size, fits, ends) }
+    let fits = c.in_ok-check_few.ensures.fits in
+    let ends = c.change_into-nodes.ensures.ends in
+    record { inside = omega (arith, size, fits, ends, c.change_into-nodes.auto.target, c.requires.wide); small = omega (arith, size, fits, ends) }
 
-pub returns-in-err-check-few : goal.returns-in-err-check-few
-returns-in-err-check-few g c =
+pub returns-in_err-check_few : goal.returns-in_err-check_few
+returns-in_err-check_few g c =
     let K = g.K.Kind.model in
     let s = changed K c.args.change (score_of (view g.K.Kind.numbers_of c.args.row.now)) in
     let p = err_from_is_err_and c.from-residual.result c.from-residual.ensures.1 in
-    refused_few K s (view g.K.Kind.numbers_of c.args.target.now) c.from-residual.result _ (p.1 ∙ ap Err p.2) c.in-err-check-few.ensures.answer
+    refused_few K s (view g.K.Kind.numbers_of c.args.target.now) c.from-residual.result _ (p.1 ∙ ap Err p.2) c.in_err-check_few.ensures.answer
 
 pub returns : goal.returns
 returns g c =
@@ -57,9 +57,9 @@ returns g c =
     let s = score_of (view f row) in
     let held = c.requires.held in
     let some : 0 < length row = omega (arith, length-map row (seen f), long (view f row) held.whole, some_node s) in
-    let whole = length_listed K met.lawful.lengths f met.legal row held c.fill-spans.new.spans c.fill-spans.ensures 0 some in
+    let whole = length_listed K met.lawful.lengths f met.legal row held c.fill_spans.new.spans c.fill_spans.ensures 0 some in
     let size = length_preorder (changed K c.args.change s) in
-    let stands = wrote_front _ _ _ _ (omega (arith, size, length-map c.args.target.now (seen f), c.in-ok-check-few.ensures.fits, c.requires.wide)) c.change-into-nodes.ensures in
-    let answer = c.size-within.ensures (changed K c.args.change s) stands
+    let stands = wrote_front _ _ _ _ (omega (arith, size, length-map c.args.target.now (seen f), c.in_ok-check_few.ensures.fits, c.requires.wide)) c.change_into-nodes.ensures in
+    let answer = c.size_within.ensures (changed K c.args.change s) stands
     (c.length.ensures ∙ ap (changed_length c.args.change) whole ∙ sym (changed_length_lem K s met.lawful (legal_row K met.lawful.lengths f met.legal row) c.args.change)) in
-    made_from K (changed K c.args.change s) (view f c.change-into-nodes.new.target) c.size-within.result c.change-into-nodes.result answer stands (omega (arith, c.change-into-nodes.ensures.ends, size))
+    made_from K (changed K c.args.change s) (view f c.change_into-nodes.new.target) c.size_within.result c.change_into-nodes.result answer stands (omega (arith, c.change_into-nodes.ensures.ends, size))

@@ -12,7 +12,7 @@ returns-in-Less g c =
     let xs = c.args.first.now in
     let ys = c.args.second.now in
     let at = c.loop-at.at in
-    let ordered = c.in-Less.ensures.legal (All-get_or (λ x. LegalNumbers K x.numbers) xs at _ (omega arith) c.requires.first-legal) (All-get_or (λ x. LegalNumbers K x.numbers) ys at _ (omega arith) c.requires.second-legal) in
+    let ordered = c.in-Less.ensures.legal (All-get_or (λ x. LegalNumbers K x.numbers) xs at _ (omega arith) c.requires.first_legal) (All-get_or (λ x. LegalNumbers K x.numbers) ys at _ (omega arith) c.requires.second_legal) in
     ap (lesser_of _ _ _) ordered ∙ sym (parting_step K xs ys at _ (omega arith) (omega arith)) ∙ c.loop-at.invariant.2
 
 pub loop-at-preserved : goal.loop-at-preserved
@@ -21,7 +21,7 @@ loop-at-preserved g c =
     let xs = c.args.first.now in
     let ys = c.args.second.now in
     let at = c.loop-at.at in
-    let ordered = c.in-Equal.ensures.legal (All-get_or (λ x. LegalNumbers K x.numbers) xs at _ (omega arith) c.requires.first-legal) (All-get_or (λ x. LegalNumbers K x.numbers) ys at _ (omega arith) c.requires.second-legal) in
+    let ordered = c.in-Equal.ensures.legal (All-get_or (λ x. LegalNumbers K x.numbers) xs at _ (omega arith) c.requires.first_legal) (All-get_or (λ x. LegalNumbers K x.numbers) ys at _ (omega arith) c.requires.second_legal) in
     (omega arith, omega arith, ap (lesser_of _ _ _) ordered ∙ sym (parting_step K xs ys at _ (omega arith) (omega arith)) ∙ c.loop-at.invariant.2)
 
 pub returns-in-Greater : goal.returns-in-Greater
@@ -30,7 +30,7 @@ returns-in-Greater g c =
     let xs = c.args.first.now in
     let ys = c.args.second.now in
     let at = c.loop-at.at in
-    let ordered = c.in-Greater.ensures.legal (All-get_or (λ x. LegalNumbers K x.numbers) xs at _ (omega arith) c.requires.first-legal) (All-get_or (λ x. LegalNumbers K x.numbers) ys at _ (omega arith) c.requires.second-legal) in
+    let ordered = c.in-Greater.ensures.legal (All-get_or (λ x. LegalNumbers K x.numbers) xs at _ (omega arith) c.requires.first_legal) (All-get_or (λ x. LegalNumbers K x.numbers) ys at _ (omega arith) c.requires.second_legal) in
     ap (lesser_of _ _ _) ordered ∙ sym (parting_step K xs ys at _ (omega arith) (omega arith)) ∙ c.loop-at.invariant.2
 
 pub returns-then-at-first : goal.returns-then-at-first

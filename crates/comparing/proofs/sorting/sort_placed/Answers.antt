@@ -10,7 +10,7 @@ returns g c =
     let K = g.K.Kind.model in
     let back = sym c.unrank.ensures in
     record {
-      sorted = subst (λ xs. Sorted K (all_placed xs)) back c.sort-ranked.ensures.sorted;
-      bag = λ x. ap (λ xs. count same_placed x (all_placed xs)) c.unrank.ensures ∙ c.sort-ranked.ensures.bag x ∙ ap (λ xs. count same_placed x (all_placed xs)) c.rank.ensures;
-      legal = subst (AllLegal K) back c.sort-ranked.ensures.legal;
+      sorted = subst (λ xs. Sorted K (all_placed xs)) back c.sort_ranked.ensures.sorted;
+      bag = λ x. ap (λ xs. count same_placed x (all_placed xs)) c.unrank.ensures ∙ c.sort_ranked.ensures.bag x ∙ ap (λ xs. count same_placed x (all_placed xs)) c.rank.ensures;
+      legal = subst (AllLegal K) back c.sort_ranked.ensures.legal;
     }

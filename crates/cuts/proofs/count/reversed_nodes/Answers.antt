@@ -4,8 +4,8 @@ use Rattle.algebra.specs.Layout.{seen, view, stack, score_at}
 use Rattle.cuts.proofs.Counting.{paddings, padding_here_most, one_padding, all_paddings}
 use Rattle.cuts.proofs.count.reversed_nodes.Goals as goal
 
-pub overflow-cast-count : goal.overflow-cast-count
-overflow-cast-count g c =
+pub overflow_cast-count : goal.overflow_cast-count
+overflow_cast-count g c =
     let same = length-map c.args.row.now (seen g.K.Kind.numbers_of) in
     omega arith
 
@@ -15,11 +15,11 @@ loop-at-init g c =
     let same = length-map c.args.row.now (seen g.K.Kind.numbers_of) in
     (omega arith, omega (arith, all_paddings g.K.Kind.model xs c.requires.held.whole))
 
-pub own-padding-count-requires : goal.own-padding-count-requires
-own-padding-count-requires g c = record { held = c.requires.held; inside = c.loop-at-test.true; room = c.requires.room; spanned = c.requires.spanned }
+pub own_padding-count-requires : goal.own_padding-count-requires
+own_padding-count-requires g c = record { held = c.requires.held; inside = c.loop-at-test.true; room = c.requires.room; spanned = c.requires.spanned }
 
-pub overflow-add-count : goal.overflow-add-count
-overflow-add-count g c =
+pub overflow_add-count : goal.overflow_add-count
+overflow_add-count g c =
     let xs = view g.K.Kind.numbers_of c.args.row.now in
     let same = length-map c.args.row.now (seen g.K.Kind.numbers_of) in
     omega (arith, padding_here_most g.K.Kind.model (score_at xs c.loop-at.at))

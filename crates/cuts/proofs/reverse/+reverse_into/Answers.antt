@@ -25,14 +25,14 @@ put-next-requires g t c =
     let j = reverse_sequence c.args.row.now c.args.at c.in-Sequence.ensures in
     omega arith
 
-pub reverse-into-next-requires : goal.reverse-into-next-requires
-reverse-into-next-requires g t c κs within =
+pub reverse_into-next-requires : goal.reverse_into-next-requires
+reverse_into-next-requires g t c κs within =
     let p = c.in-Sequence.ensures in
     let j = reverse_sequence c.args.row.now c.args.at p in
     (omega arith, (within, (c.requires.held, (p.right_inside, (c.requires.room, (c.requires.spanned, omega arith))))))
 
-pub reverse-into-requires : goal.reverse-into-requires
-reverse-into-requires g t c κs within =
+pub reverse_into-requires : goal.reverse_into-requires
+reverse_into-requires g t c κs within =
     let p = c.in-Sequence.ensures in
     let j = reverse_sequence c.args.row.now c.args.at p in
     (omega arith, (within, (c.requires.held, (p.left_inside, (c.requires.room, (c.requires.spanned, omega arith))))))
@@ -40,31 +40,31 @@ reverse-into-requires g t c κs within =
 pub returns-in-Sequence : goal.returns-in-Sequence
 returns-in-Sequence g t c =
     let j = reverse_sequence c.args.row.now c.args.at c.in-Sequence.ensures in
-    wrote_joined g.K.Kind.numbers_of c.args.target.now c.args.to j c.requires.fits c.put-next.ensures c.reverse-into-next.ensures c.reverse-into.ensures
+    wrote_joined g.K.Kind.numbers_of c.args.target.now c.args.to j c.requires.fits c.put-next.ensures c.reverse_into-next.ensures c.reverse_into.ensures
 
 pub put-next-requires-in-Parallel : goal.put-next-requires-in-Parallel
 put-next-requires-in-Parallel g t c =
     let m = reverse_parallel c.args.row.now c.args.at c.in-Parallel.ensures in
     omega arith
 
-pub put-padding-start-requires : goal.put-padding-start-requires
-put-padding-start-requires g t c =
+pub put_padding-start-requires : goal.put_padding-start-requires
+put_padding-start-requires g t c =
     let m = reverse_parallel c.args.row.now c.args.at c.in-Parallel.ensures in
     omega arith
 
-pub reverse-into-next-requires-in-Parallel : goal.reverse-into-next-requires-in-Parallel
-reverse-into-next-requires-in-Parallel g t c κs within =
+pub reverse_into-next-requires-in-Parallel : goal.reverse_into-next-requires-in-Parallel
+reverse_into-next-requires-in-Parallel g t c κs within =
     let p = c.in-Parallel.ensures in
     let m = reverse_parallel c.args.row.now c.args.at p in
     (omega arith, (within, (c.requires.held, (p.left_inside, (c.requires.room, (c.requires.spanned, omega arith))))))
 
-pub put-padding-start-requires-in-Parallel : goal.put-padding-start-requires-in-Parallel
-put-padding-start-requires-in-Parallel g t c =
+pub put_padding-start-requires-in-Parallel : goal.put_padding-start-requires-in-Parallel
+put_padding-start-requires-in-Parallel g t c =
     let m = reverse_parallel c.args.row.now c.args.at c.in-Parallel.ensures in
     omega arith
 
-pub reverse-into-requires-in-Parallel : goal.reverse-into-requires-in-Parallel
-reverse-into-requires-in-Parallel g t c κs within =
+pub reverse_into-requires-in-Parallel : goal.reverse_into-requires-in-Parallel
+reverse_into-requires-in-Parallel g t c κs within =
     let p = c.in-Parallel.ensures in
     let m = reverse_parallel c.args.row.now c.args.at p in
     (omega arith, (within, (c.requires.held, (p.right_inside, (c.requires.room, (c.requires.spanned, omega arith))))))
@@ -73,6 +73,6 @@ pub returns-in-Parallel : goal.returns-in-Parallel
 returns-in-Parallel g t c =
     let f = g.K.Kind.numbers_of in
     let m = reverse_parallel c.args.row.now c.args.at c.in-Parallel.ensures in
-    let first = wrote_both f c.put-next-in-Parallel.new.target c.put-next-in-Parallel.result (omega arith) c.put-padding-start.ensures c.reverse-into-next-in-Parallel.ensures in
-    let second = wrote_both f c.reverse-into-next-in-Parallel.new.target c.reverse-into-next-in-Parallel.result (omega arith) c.put-padding-start-in-Parallel.ensures c.reverse-into-in-Parallel.ensures in
+    let first = wrote_both f c.put-next-in-Parallel.new.target c.put-next-in-Parallel.result (omega arith) c.put_padding-start.ensures c.reverse_into-next-in-Parallel.ensures in
+    let second = wrote_both f c.reverse_into-next-in-Parallel.new.target c.reverse_into-next-in-Parallel.result (omega arith) c.put_padding-start-in-Parallel.ensures c.reverse_into-in-Parallel.ensures in
     wrote_joined f c.args.target.now c.args.to m.pair c.requires.fits c.put-next-in-Parallel.ensures first second

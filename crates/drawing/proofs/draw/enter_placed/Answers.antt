@@ -6,8 +6,8 @@ use Rattle.render.specs.Drawings.{entered_all}
 use Rattle.drawing.proofs.Entering.{entries, entered_more}
 use Rattle.drawing.proofs.draw.enter_placed.Goals as goal
 
-pub primitive-of-primitive-requires : goal.primitive-of-primitive-requires
-primitive-of-primitive-requires g c = All-get_or (λ x. LegalNumbers g.K.Kind.model x.numbers) c.args.placed.now c.loop-item.item-index _ c.loop-item-test.true c.requires
+pub primitive_of-primitive-requires : goal.primitive_of-primitive-requires
+primitive_of-primitive-requires g c = All-get_or (λ x. LegalNumbers g.K.Kind.model x.numbers) c.args.placed.now c.loop-item.item-index _ c.loop-item-test.true c.requires
 
 pub loop-item-preserved : goal.loop-item-preserved
 loop-item-preserved g c =
@@ -15,7 +15,7 @@ loop-item-preserved g c =
     let K = g.K.Kind.model in
     let kept = c.loop-item.invariant.0 in
     let item = get_or c.args.placed.now c.loop-item.item-index _ in
-    let long : c.length.result ≡ K.length_of item.numbers = c.length.ensures ∙ ap K.length_of c.primitive-of-primitive.ensures in (
+    let long : c.length.result ≡ K.length_of item.numbers = c.length.ensures ∙ ap K.length_of c.primitive_of-primitive.ensures in (
       c.enter.ensures.settings ∙ kept,
       entered_more K R.entered _ _ _ _ _ _ _ _ c.loop-item-test.true kept c.loop-item.invariant.1
           (c.enter.ensures.picture ∙ ap (λ n. R.entered (R.settings_of c.loop-item.renderer) (record { onset = item.onset; length = n; numbers = item.numbers }) (R.picture_of c.loop-item.renderer)) long),

@@ -14,17 +14,17 @@ returns g c =
     let R = g.R.Renderer in
     let n = number c.args.nodes.now in
     let calls = c.args.calls.now in
-    let answers = c.play-on.new.answers in
+    let answers = c.play_on.new.answers in
     let at = renderer_at R.blank R.entered (R.settings_of c.args.renderer.now) in
     let first = state_of (replicate n None) c.args.buffer.now (R.picture_of c.args.renderer.now) in
-    let last = state_of (shelf f c.play-on.new.rack) c.play-on.new.buffer (R.picture_of c.play-on.new.renderer) in
-    let ran = subst (λ (s : Shelf). Ran K at (state_of s c.args.buffer.now (R.picture_of c.args.renderer.now)) calls answers last) c.new-rack.ensures c.play-on.ensures.run in
+    let last = state_of (shelf f c.play_on.new.rack) c.play_on.new.buffer (R.picture_of c.play_on.new.renderer) in
+    let ran = subst (λ (s : Shelf). Ran K at (state_of s c.args.buffer.now (R.picture_of c.args.renderer.now)) calls answers last) c.new-rack.ensures c.play_on.ensures.run in
     record {
       run = ran;
-      others = c.play-on.ensures.others;
-      settings = c.play-on.ensures.settings;
+      others = c.play_on.ensures.others;
+      settings = c.play_on.ensures.settings;
       ledger = record {
         kept = keeps K at calls answers first last (blank n) ran;
-        certified = λ l k. c.play-on.ensures.ledger (blank n) l (subst (λ (s : Shelf). Stands K s (blank n)) (sym c.new-rack.ensures) (start K n)) k;
+        certified = λ l k. c.play_on.ensures.ledger (blank n) l (subst (λ (s : Shelf). Stands K s (blank n)) (sym c.new-rack.ensures) (start K n)) k;
       };
     }

@@ -10,11 +10,11 @@ loop-i-preserved g c =
     let K = g.K.Kind.model in
     let f = g.K.Kind.numbers_of in
     let R = g.R.Renderer in
-    let now = c.make-call-answer.ensures in
+    let now = c.make_call-answer.ensures in
     let inv = c.loop-i.invariant in
-    let answer = c.make-call-answer.result in
+    let answer = c.make_call-answer.result in
     let before = state_of (shelf f c.loop-i.rack) c.loop-i.buffer (R.picture_of c.loop-i.renderer) in
-    let after = state_of (shelf f c.make-call-answer.new.rack) c.make-call-answer.new.buffer (R.picture_of c.make-call-answer.new.renderer) in
+    let after = state_of (shelf f c.make_call-answer.new.rack) c.make_call-answer.new.buffer (R.picture_of c.make_call-answer.new.renderer) in
     let did = did_at K R.blank R.entered _ _ inv.2 before after _ answer now.did in (
       turn K (renderer_at R.blank R.entered (R.settings_of c.args.renderer.now)) c.args.calls.now c.loop-i.i _ _ c.loop-i.answers answer
           (state_of (shelf f c.args.rack.now) c.args.buffer.now (R.picture_of c.args.renderer.now)) before after

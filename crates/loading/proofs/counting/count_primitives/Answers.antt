@@ -4,7 +4,7 @@ use Rattle.grammar.specs.Loads.{holds_primitive, excess}
 use Rattle.loading.specs.Counts.{primitive_items}
 use Rattle.loading.proofs.Steps.{item_at, no_node, no_primitive, one_primitive, one_other, counted_primitive, counted_other}
 use Rattle.loading.proofs.counting.count_primitives.Goals as goal
-use Rattle.loading.proofs.counting.count_primitives.Goals.{then-is-primitive+else-count-eq-PRIMITIVES, else-is-primitive}
+use Rattle.loading.proofs.counting.count_primitives.Goals.{then-is_primitive+else-count-eq-PRIMITIVES, else-is_primitive}
 
 pub returns-then-at-eq-NODES : goal.returns-then-at-eq-NODES
 returns-then-at-eq-NODES c =
@@ -23,18 +23,18 @@ loop-at-preserved c =
     let h = c.loop-at-test.true in
     let node = (item_at is at).node in
     let next : 1023 - at - 1 ≡ 1023 - (at + 1) = omega arith in
-    elim c.if-is-primitive.branch [
-      | then-is-primitive+else-count-eq-PRIMITIVES w ↦
+    elim c.if-is_primitive.branch [
+      | then-is_primitive+else-count-eq-PRIMITIVES w ↦
           let e : holds_primitive node ≡ true = cc in
-          let fewer : 170 - count - 1 ≡ 170 - c.if-is-primitive.count = omega (arith, w.count_is) in (
+          let fewer : 170 - count - 1 ≡ 170 - c.if-is_primitive.count = omega (arith, w.count_is) in (
             omega arith,
             omega (arith, w.count_is),
             omega (arith, w.count_is, counted_primitive is at h e),
             (λ i. excess (sym next i) (sym fewer i) (drop (at + 1) is)) ∙ sym (one_primitive is at h _ _ (omega arith) e (omega arith)) ∙ c.loop-at.invariant.3,
           )
-      | else-is-primitive w ↦
+      | else-is_primitive w ↦
           let e : holds_primitive node ≡ false = cc in
-          let same : 170 - count ≡ 170 - c.if-is-primitive.count = omega (arith, w.count_is) in (
+          let same : 170 - count ≡ 170 - c.if-is_primitive.count = omega (arith, w.count_is) in (
             omega arith,
             omega (arith, w.count_is),
             omega (arith, w.count_is, counted_other is at h e),

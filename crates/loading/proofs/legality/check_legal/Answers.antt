@@ -4,8 +4,8 @@ use Rattle.grammar.specs.Loads.{legal_node, illegal}
 use Rattle.loading.proofs.Steps.{item_at, one_illegal, one_legal}
 use Rattle.loading.proofs.legality.check_legal.Goals as goal
 
-pub returns-then-is-none : goal.returns-then-is-none
-returns-then-is-none g c =
+pub returns-then-is_none : goal.returns-then-is_none
+returns-then-is_none g c =
     let is = c.args.items.now in
     let at = c.loop-item.item-index in
     let K = g.K.Kind.model in

@@ -5,15 +5,15 @@ use Rattle.loading.specs.Gives.{Gives}
 use Rattle.loading.proofs.Given.{gives_refused, gives_checked}
 use Rattle.loading.proofs.load.load.Goals as goal
 
-pub returns-in-err-head : goal.returns-in-err-head
-returns-in-err-head g c =
-    gives_refused g.K.Kind.model c.args.reading.text.now _ _ (c.as-bytes.ensures.value ∙ c.name-name.ensures) c.from-residual.result _ c.from-residual.ensures.1 c.in-err-head.ensures
+pub returns-in_err-head : goal.returns-in_err-head
+returns-in_err-head g c =
+    gives_refused g.K.Kind.model c.args.reading.text.now _ _ (c.as_bytes.ensures.value ∙ c.name-name.ensures) c.from-residual.result _ c.from-residual.ensures.1 c.in_err-head.ensures
 
 pub returns : goal.returns
 returns g c =
     let K = g.K.Kind.model in
     let text = c.args.reading.text.now in
-    let head = c.in-ok-head.head in
-    let d = subst (ReadAs c.as-bytes.result.now text head) (sym c.items.ensures) c.in-ok-head.ensures in
+    let head = c.in_ok-head.head in
+    let d = subst (ReadAs c.as_bytes.result.now text head) (sym c.items.ensures) c.in_ok-head.ensures in
     subst (λ is. Gives K text is c.check.result) c.items.ensures
-    (gives_checked K text _ (c.as-bytes.ensures.value ∙ c.name-name.ensures) head c.items.result.now d c.check.result (c.check.ensures d.file d.describes))
+    (gives_checked K text _ (c.as_bytes.ensures.value ∙ c.name-name.ensures) head c.items.result.now d c.check.result (c.check.ensures d.file d.describes))

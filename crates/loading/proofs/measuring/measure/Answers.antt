@@ -12,19 +12,19 @@ use Rattle.loading.proofs.measuring.measure.Goals as goal
 pub loop-at-init : goal.loop-at-init
 loop-at-init g c = (refl, λ i l h. absurd (omega (arith, length_nodes c.args.items.now)))
 
-pub legal-node-of-node-requires : goal.legal-node-of-node-requires
-legal-node-of-node-requires g c = legal_at g.K.Kind.model c.args.items.now c.requires.legal (c.loop-at.at - 1) (omega arith)
+pub legal_node_of-node-requires : goal.legal_node_of-node-requires
+legal_node_of-node-requires g c = legal_at g.K.Kind.model c.args.items.now c.requires.legal (c.loop-at.at - 1) (omega arith)
 
 pub at-span-requires : goal.at-span-requires
 at-span-requires g c =
     parts_inside g.K.Kind.model c.args.items.now c.requires.whole c.requires.small c.loop-at.spans (omega arith) c.loop-at.at c.loop-at-test.true (omega arith) c.loop-at.invariant.1
-    _ c.legal-node-of-node.ensures
+    _ c.legal_node_of-node.ensures
 
 pub loop-at-preserved : goal.loop-at-preserved
 loop-at-preserved g c = (
   omega (arith, length-set c.loop-at.spans (c.loop-at.at - 1) c.at-span.result),
   one_more g.K.Kind.model c.args.items.now c.requires.whole c.requires.small c.loop-at.spans (omega arith) c.loop-at.at c.loop-at-test.true (omega arith) c.loop-at.invariant.1
-      _ c.legal-node-of-node.ensures c.at-span.result c.at-span.ensures,
+      _ c.legal_node_of-node.ensures c.at-span.result c.at-span.ensures,
 )
 
 pub returns : goal.returns

@@ -7,8 +7,8 @@ use Rattle.nodes.proofs.Parts.{some_node}
 use Rattle.nodes.proofs.Readings.{long}
 use Rattle.nodes.proofs.measure.length_of.Goals as goal
 
-pub fill-spans-requires : goal.fill-spans-requires
-fill-spans-requires g c =
+pub fill_spans-requires : goal.fill_spans-requires
+fill_spans-requires g c =
     let same = length-map c.args.row.now (seen g.K.Kind.numbers_of) in
     record { whole = c.requires.whole; small = omega arith; room = omega arith }
 
@@ -18,4 +18,4 @@ returns g c =
     let K = g.K.Kind.model in
     let xs = view f c.args.row.now in
     let short = length_held K g.met.K.Kind.lawful.lengths f g.met.K.Kind.legal c.args.row.now c.requires in
-    ap (λ (s : Span). s.length) (c.fill-spans.ensures 0 (omega arith) (omega (arith, long xs c.requires.whole, some_node (score_of xs)))) ∙ omega arith
+    ap (λ (s : Span). s.length) (c.fill_spans.ensures 0 (omega arith) (omega (arith, long xs c.requires.whole, some_node (score_of xs)))) ∙ omega arith

@@ -17,7 +17,7 @@ returns g c =
     let some : at + n - at ≡ n = omega arith in
     let more : n ≡ to + n - to = omega arith in
     let long : length zs ≡ n = length-take-le n (drop at row) (omega (arith, length-drop at row, c.requires.within)) in
-    let is : c.copy-from-slice.new.self ≡ zs = c.copy-from-slice.ensures.after ∙ ap (λ k. take k (drop at row)) some in
+    let is : c.copy_from_slice.new.self ≡ zs = c.copy_from_slice.ensures.after ∙ ap (λ k. take k (drop at row)) some in
     wrote_copy g.K.Kind.numbers_of c.args.target.now _ row at n to c.requires.within
-    (put_mid-paste to (to + n - to) c.args.target.now c.copy-from-slice.new.self zs n is more (sym long)
+    (put_mid-paste to (to + n - to) c.args.target.now c.copy_from_slice.new.self zs n is more (sym long)
     ∙ overlaid_paste c.args.target.now to zs n (omega (arith, long)) ∙ ap (overlaid c.args.target.now to) (take-take n n (drop at row) (omega arith)))

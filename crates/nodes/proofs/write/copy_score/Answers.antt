@@ -7,8 +7,8 @@ use Rattle.nodes.proofs.Tables.{nodes_listed}
 use Rattle.nodes.proofs.Writings.{wrote_as}
 use Rattle.nodes.proofs.write.copy_score.Goals as goal
 
-pub copy-nodes-requires : goal.copy-nodes-requires
-copy-nodes-requires g c =
+pub copy_nodes-requires : goal.copy_nodes-requires
+copy_nodes-requires g c =
     let xs = view g.K.Kind.numbers_of c.args.row.now in
     let n = length-map c.args.row.now (seen g.K.Kind.numbers_of) in
     let i : c.args.at < length xs = omega (arith, n, c.requires.inside) in
@@ -24,4 +24,4 @@ returns g c =
     let n = length-map c.args.row.now (seen g.K.Kind.numbers_of) in
     let i : c.args.at < length xs = omega (arith, n, c.requires.inside) in
     let s = nodes_listed g.K.Kind.model xs c.args.spans.now c.requires.spanned c.args.at i in
-    wrote_as _ _ c.args.to _ (ap (λ k. take k (drop c.args.at xs)) s ∙ nodes_there xs c.requires.whole c.args.at i) c.copy-nodes.ensures
+    wrote_as _ _ c.args.to _ (ap (λ k. take k (drop c.args.at xs)) s ∙ nodes_there xs c.requires.whole c.args.at i) c.copy_nodes.ensures

@@ -10,9 +10,9 @@ returns g c =
     let K = g.K.Kind.model in
     let onset = c.args.item.onset in
     let to = c.args.to in
-    let same = c.primitive-of-primitive.ensures in
-    let after : c.saturating-sub-after.result ≡ c.args.length - onset - K.length_of c.args.item.numbers =
-    omega (arith, c.saturating-sub-after.ensures, c.saturating-sub-left.ensures, c.length.ensures, ap K.length_of same) in
+    let same = c.primitive_of-primitive.ensures in
+    let after : c.saturating_sub-after.result ≡ c.args.length - onset - K.length_of c.args.item.numbers =
+    omega (arith, c.saturating_sub-after.ensures, c.saturating_sub-left.ensures, c.length.ensures, ap K.length_of same) in
     let size = length-map c.args.target.now (seen g.K.Kind.numbers_of) in
     wrote_as _ _ to _ (λ i. Sequence ∷ (Rest onset ∷ (Sequence ∷ (Primitive (same i) ∷ (Rest (after i) ∷ [])))))
     (wrote_then _ _ _ _ _ to _ _ (omega (arith, c.requires.fits))

@@ -18,8 +18,8 @@ put-to-requires g c =
     let written = length_taken g.K.Kind.model c.args.length c.args.placed.now c.loop-at.at (omega arith) in
     omega (arith, c.loop-at.invariant.ends, c.requires.fits)
 
-pub write-line-to-requires : goal.write-line-to-requires
-write-line-to-requires g c =
+pub write_line-to-requires : goal.write_line-to-requires
+write_line-to-requires g c =
     let K = g.K.Kind.model in
     let written = length_taken K c.args.length c.args.placed.now c.loop-at.at (omega arith) in
     record {
@@ -38,10 +38,10 @@ loop-at-preserved g c =
     let now-size = length-map c.loop-at.target (seen g.K.Kind.numbers_of) in
     wrote_as _ _ 0 _ (opened_next K n items at _ (omega arith))
     (wrote_then _ _ _ _ _ 0 _ _ (omega (arith, c.requires.fits)) c.loop-at.invariant
-    (wrote_then _ _ _ (Parallel ∷ []) _ _ _ _ (omega (arith, c.loop-at.invariant.ends, c.requires.fits)) c.put-to.ensures c.write-line-to.ensures))
+    (wrote_then _ _ _ (Parallel ∷ []) _ _ _ _ (omega (arith, c.loop-at.invariant.ends, c.requires.fits)) c.put-to.ensures c.write_line-to.ensures))
 
-pub write-line-requires : goal.write-line-requires
-write-line-requires g c =
+pub write_line-requires : goal.write_line-requires
+write_line-requires g c =
     let K = g.K.Kind.model in
     let written = length_taken K c.args.length c.args.placed.now c.loop-at.at (omega arith) in
     record {
@@ -58,4 +58,4 @@ returns g c =
     let written = length_taken K n items at (omega arith) in
     let size = length-map c.args.target.now (seen g.K.Kind.numbers_of) in
     wrote_as _ _ 0 _ (closed_all K n items at _ _ (omega arith) (omega arith))
-    (wrote_then _ _ _ _ _ 0 _ _ (omega (arith, c.requires.fits)) c.loop-at.invariant c.write-line.ensures)
+    (wrote_then _ _ _ _ _ 0 _ _ (omega (arith, c.requires.fits)) c.loop-at.invariant c.write_line.ensures)

@@ -7,15 +7,15 @@ use Rattle.nodes.proofs.Readings.{long}
 use Rattle.normal.proofs.Placings.{exact, legal_listed}
 use Rattle.normal.proofs.listing.list_primitives.Goals as goal
 
-pub fill-spans-requires : goal.fill-spans-requires
-fill-spans-requires g c =
+pub fill_spans-requires : goal.fill_spans-requires
+fill_spans-requires g c =
     let size = length-map c.args.row.now (seen g.K.Kind.numbers_of) in
     record { whole = c.requires.held.whole; small = omega (arith, c.requires.held.small); room = omega (arith, c.requires.held.small) }
 
-pub place-primitives-count-requires : goal.place-primitives-count-requires
-place-primitives-count-requires g c =
+pub place_primitives-count-requires : goal.place_primitives-count-requires
+place_primitives-count-requires g c =
     let size = length-map c.args.row.now (seen g.K.Kind.numbers_of) in
-    record { held = c.requires.held; room = omega (arith, c.requires.held.small, c.fill-spans.auto.spans); spanned = c.fill-spans.ensures; fits = c.requires.fits }
+    record { held = c.requires.held; room = omega (arith, c.requires.held.small, c.fill_spans.auto.spans); spanned = c.fill_spans.ensures; fits = c.requires.fits }
 
 pub returns : goal.returns
 returns g c =
@@ -26,8 +26,8 @@ returns g c =
     let most = length_held K g.met.K.Kind.lawful.lengths f g.met.K.Kind.legal row held in
     let some : 0 < length (view f row) = omega (arith, long (view f row) held.whole, some_node (score_of (view f row))) in
     record {
-      length = exact K (view f row) c.fill-spans.new.spans c.fill-spans.ensures 0 some (omega arith);
-      few = omega (arith, c.place-primitives-count.ensures.count, held.few);
-      legal = legal_listed K _ (score_of (view f row)) c.place-primitives-count.ensures.placed (legal_row K g.met.K.Kind.lawful.lengths f g.met.K.Kind.legal row);
-      placed = c.place-primitives-count.ensures.placed;
+      length = exact K (view f row) c.fill_spans.new.spans c.fill_spans.ensures 0 some (omega arith);
+      few = omega (arith, c.place_primitives-count.ensures.count, held.few);
+      legal = legal_listed K _ (score_of (view f row)) c.place_primitives-count.ensures.placed (legal_row K g.met.K.Kind.lawful.lengths f g.met.K.Kind.legal row);
+      placed = c.place_primitives-count.ensures.placed;
     }

@@ -17,12 +17,12 @@ bounds-spans-0 g c =
     let some : 0 < length c.args.spans.now = omega (arith, long (view f row) c.requires.held.whole, some_node (score_of (view f row)), c.requires.room) in
     search rules
 
-pub write-lines-requires : goal.write-lines-requires
-write-lines-requires g c =
+pub write_lines-requires : goal.write_lines-requires
+write_lines-requires g c =
     let f = g.K.Kind.numbers_of in
     let K = g.K.Kind.model in
     let row = c.args.row.now in
-    let is = c.place-primitives-count.ensures.placed in
+    let is = c.place_primitives-count.ensures.placed in
     let few = length_listed K _ (score_of (view f row)) is in
     record {
       legal = legal_listed K _ (score_of (view f row)) is (legal_row K g.met.K.Kind.lawful.lengths f g.met.K.Kind.legal row);
@@ -35,7 +35,7 @@ returns g c =
     let K = g.K.Kind.model in
     let row = c.args.row.now in
     let held = c.requires.held in
-    let is = c.place-primitives-count.ensures.placed in
+    let is = c.place_primitives-count.ensures.placed in
     let most = length_held K g.met.K.Kind.lawful.lengths f g.met.K.Kind.legal row held in
     let whole = exact K (view f row) c.args.spans.now c.requires.spanned 0 (omega (arith, long (view f row) held.whole, some_node (score_of (view f row)))) (omega arith) in
-    wrote_as _ _ 0 _ (λ i. preorder (together (whole i) (map (line K (whole i)) (is i)))) c.write-lines.ensures
+    wrote_as _ _ 0 _ (λ i. preorder (together (whole i) (map (line K (whole i)) (is i)))) c.write_lines.ensures

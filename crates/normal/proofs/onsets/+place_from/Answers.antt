@@ -15,36 +15,36 @@ bounds-spans-left g t c =
     let long = length-map c.args.row.now (seen g.K.Kind.numbers_of) in
     omega (arith, c.requires.room)
 
-pub place-from-next-requires : goal.place-from-next-requires
-place-from-next-requires g t c κs within =
+pub place_from-next-requires : goal.place_from-next-requires
+place_from-next-requires g t c κs within =
     let xs = view g.K.Kind.numbers_of c.args.row.now in
     let p = sequence_parts g.K.Kind.model xs c.args.at c.in-Sequence.left c.in-Sequence.right c.args.onset c.args.spans.now c.requires.spanned c.requires.short c.in-Sequence.ensures in
     let long = length-map c.args.row.now (seen g.K.Kind.numbers_of) in
     (omega (arith, c.decreases), (within, (c.requires.whole, (omega arith, (c.requires.small, (c.requires.room, (c.requires.spanned, (omega (arith, c.requires.short), omega (arith, c.requires.fits)))))))))
 
-pub place-from-requires : goal.place-from-requires
-place-from-requires g t c κs within =
+pub place_from-requires : goal.place_from-requires
+place_from-requires g t c κs within =
     let xs = view g.K.Kind.numbers_of c.args.row.now in
     let p = sequence_parts g.K.Kind.model xs c.args.at c.in-Sequence.left c.in-Sequence.right c.args.onset c.args.spans.now c.requires.spanned c.requires.short c.in-Sequence.ensures in
     let long = length-map c.args.row.now (seen g.K.Kind.numbers_of) in (
       omega (arith, c.decreases),
-      (within, (c.requires.whole, (omega arith, (c.requires.small, (c.requires.room, (c.requires.spanned, (omega (arith, c.requires.short), omega (arith, c.requires.fits, c.place-from-next.ensures.ends)))))))),
+      (within, (c.requires.whole, (omega arith, (c.requires.small, (c.requires.room, (c.requires.spanned, (omega (arith, c.requires.short), omega (arith, c.requires.fits, c.place_from-next.ensures.ends)))))))),
     )
 
-pub place-from-next-requires-in-Parallel : goal.place-from-next-requires-in-Parallel
-place-from-next-requires-in-Parallel g t c κs within =
+pub place_from-next-requires-in-Parallel : goal.place_from-next-requires-in-Parallel
+place_from-next-requires-in-Parallel g t c κs within =
     let xs = view g.K.Kind.numbers_of c.args.row.now in
     let p = parallel_parts g.K.Kind.model xs c.args.at c.in-Parallel.left c.in-Parallel.right c.args.onset c.in-Parallel.ensures in
     let long = length-map c.args.row.now (seen g.K.Kind.numbers_of) in
     (omega (arith, c.decreases), (within, (c.requires.whole, (omega arith, (c.requires.small, (c.requires.room, (c.requires.spanned, (omega (arith, c.requires.short), omega (arith, c.requires.fits)))))))))
 
-pub place-from-requires-in-Parallel : goal.place-from-requires-in-Parallel
-place-from-requires-in-Parallel g t c κs within =
+pub place_from-requires-in-Parallel : goal.place_from-requires-in-Parallel
+place_from-requires-in-Parallel g t c κs within =
     let xs = view g.K.Kind.numbers_of c.args.row.now in
     let p = parallel_parts g.K.Kind.model xs c.args.at c.in-Parallel.left c.in-Parallel.right c.args.onset c.in-Parallel.ensures in
     let long = length-map c.args.row.now (seen g.K.Kind.numbers_of) in (
       omega (arith, c.decreases),
-      (within, (c.requires.whole, (omega arith, (c.requires.small, (c.requires.room, (c.requires.spanned, (omega (arith, c.requires.short), omega (arith, c.requires.fits, c.place-from-next-in-Parallel.ensures.ends)))))))),
+      (within, (c.requires.whole, (omega arith, (c.requires.small, (c.requires.room, (c.requires.spanned, (omega (arith, c.requires.short), omega (arith, c.requires.fits, c.place_from-next-in-Parallel.ensures.ends)))))))),
     )
 
 pub returns-in-Rest : goal.returns-in-Rest
@@ -65,11 +65,11 @@ returns-in-Sequence g t c =
     let xs = view g.K.Kind.numbers_of c.args.row.now in
     let p = sequence_parts g.K.Kind.model xs c.args.at c.in-Sequence.left c.in-Sequence.right c.args.onset c.args.spans.now c.requires.spanned c.requires.short c.in-Sequence.ensures in
     let size = length-map c.args.out.now placed_of in
-    wrote_as _ _ c.args.to _ p.is (wrote_then _ _ _ _ _ c.args.to _ _ (omega (arith, c.requires.fits)) c.place-from-next.ensures c.place-from.ensures)
+    wrote_as _ _ c.args.to _ p.is (wrote_then _ _ _ _ _ c.args.to _ _ (omega (arith, c.requires.fits)) c.place_from-next.ensures c.place_from.ensures)
 
 pub returns-in-Parallel : goal.returns-in-Parallel
 returns-in-Parallel g t c =
     let xs = view g.K.Kind.numbers_of c.args.row.now in
     let p = parallel_parts g.K.Kind.model xs c.args.at c.in-Parallel.left c.in-Parallel.right c.args.onset c.in-Parallel.ensures in
     let size = length-map c.args.out.now placed_of in
-    wrote_as _ _ c.args.to _ p.is (wrote_then _ _ _ _ _ c.args.to _ _ (omega (arith, c.requires.fits)) c.place-from-next-in-Parallel.ensures c.place-from-in-Parallel.ensures)
+    wrote_as _ _ c.args.to _ p.is (wrote_then _ _ _ _ _ c.args.to _ _ (omega (arith, c.requires.fits)) c.place_from-next-in-Parallel.ensures c.place_from-in-Parallel.ensures)

@@ -8,8 +8,8 @@ use Rattle.nodes.proofs.Readings.{long}
 use Rattle.normal.proofs.Placings.{length_from, later_none, wrote_first}
 use Rattle.normal.proofs.onsets.place_primitives.Goals as goal
 
-pub place-from-requires : goal.place-from-requires
-place-from-requires g c =
+pub place_from-requires : goal.place_from-requires
+place_from-requires g c =
     let f = g.K.Kind.numbers_of in
     let row = c.args.row.now in
     let held = c.requires.held in
@@ -29,7 +29,7 @@ pub returns : goal.returns
 returns g c =
     let K = g.K.Kind.model in
     let s = score_of (view g.K.Kind.numbers_of c.args.row.now) in
-    let w = c.place-from.ensures in
+    let w = c.place_from.ensures in
     record {
       count = omega (arith, w.ends, length_from K 0 s);
       placed = wrote_first c.args.out.now _ _ _ w ∙ later_none (placed K s);

@@ -8,15 +8,15 @@ use Rattle.partners.proofs.after.order_after.Goals as goal
 pub choose-middle-requires : goal.choose-middle-requires
 choose-middle-requires g c =
     let both = length_both (all_placed c.args.score.now) (all_placed c.args.model.now) in
-    record { list-legal = c.requires.model-legal; legal = c.requires.legal; few = c.requires.few; room = omega (arith, both, length-map c.args.score.now placed_of, c.requires.room) }
+    record { list_legal = c.requires.model_legal; legal = c.requires.legal; few = c.requires.few; room = omega (arith, both, length-map c.args.score.now placed_of, c.requires.room) }
 
 pub choose-requires : goal.choose-requires
 choose-requires g c =
     let both = length_both (all_placed c.args.score.now) (all_placed c.args.model.now) in
     record {
-      list-legal = c.requires.legal;
-      legal = c.requires.model-legal;
-      few = c.requires.model-few;
+      list_legal = c.requires.legal;
+      legal = c.requires.model_legal;
+      few = c.requires.model_few;
       room = omega (arith, both, length-map c.args.score.now placed_of, c.requires.room, c.choose-middle.ensures.ends, c.choose-middle.auto.out);
     }
 

@@ -17,7 +17,7 @@ pub spend-requires : goal.spend-requires
 spend-requires g c = record {
   sorted = c.requires.sorted;
   legal = c.requires.legal;
-  item-legal = All-get_or (λ x. LegalNumbers g.K.Kind.model x.numbers) c.args.list.now c.loop-item.item-index _ (omega arith) c.requires.list-legal;
+  item_legal = All-get_or (λ x. LegalNumbers g.K.Kind.model x.numbers) c.args.list.now c.loop-item.item-index _ (omega arith) c.requires.list_legal;
   few = c.requires.few;
   room = omega (arith, c.requires.few, c.loop-item.invariant.0);
 }

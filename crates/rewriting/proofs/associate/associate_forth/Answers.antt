@@ -3,20 +3,20 @@ use Rattle.rewriting.specs.Tables.{standing}
 use Rattle.rewriting.proofs.Forms.{parted, associated_forth}
 use Rattle.rewriting.proofs.associate.associate_forth.Goals as goal
 
-pub returns-in-err-left : goal.returns-in-err-left
-returns-in-err-left g c =
+pub returns-in_err-left : goal.returns-in_err-left
+returns-in_err-left g c =
     let f = g.K.Kind.numbers_of in
     let row = c.args.row.now in
-    rw c.from-residual.ensures (associated_forth g.K.Kind.model c.args.join (standing f row c.args.at) ∙ c.in-err-left.ensures _)
+    rw c.from-residual.ensures (associated_forth g.K.Kind.model c.args.join (standing f row c.args.at) ∙ c.in_err-left.ensures _)
 
-pub returns-in-err-a : goal.returns-in-err-a
-returns-in-err-a g c =
+pub returns-in_err-a : goal.returns-in_err-a
+returns-in_err-a g c =
     let f = g.K.Kind.numbers_of in
     let row = c.args.row.now in
-    rw c.from-residual-in-err-a.ensures (associated_forth g.K.Kind.model c.args.join (standing f row c.args.at) ∙ parted f row c.in-ok-left.ensures _ ∙ c.in-err-a.ensures _)
+    rw c.from-residual-in_err-a.ensures (associated_forth g.K.Kind.model c.args.join (standing f row c.args.at) ∙ parted f row c.in_ok-left.ensures _ ∙ c.in_err-a.ensures _)
 
 pub returns : goal.returns
 returns g c =
     let f = g.K.Kind.numbers_of in
     let row = c.args.row.now in
-    (associated_forth g.K.Kind.model c.args.join (standing f row c.args.at) ∙ parted f row c.in-ok-left.ensures _ ∙ parted f row c.in-ok-a.ensures _, (c.in-ok-a.ensures.left_inside, (c.in-ok-a.ensures.right_inside, c.in-ok-left.ensures.right_inside)))
+    (associated_forth g.K.Kind.model c.args.join (standing f row c.args.at) ∙ parted f row c.in_ok-left.ensures _ ∙ parted f row c.in_ok-a.ensures _, (c.in_ok-a.ensures.left_inside, (c.in_ok-a.ensures.right_inside, c.in_ok-left.ensures.right_inside)))

@@ -1,4 +1,4 @@
 use Rattle.rewriting.proofs.associate.commute.Goals as goal
 
-pub returns-in-err-a : goal.returns-in-err-a
-returns-in-err-a g c = rw c.from-residual.ensures (c.in-err-a.ensures _)
+pub returns-in_err-a : goal.returns-in_err-a
+returns-in_err-a g c = rw c.from-residual.ensures (c.in_err-a.ensures _)

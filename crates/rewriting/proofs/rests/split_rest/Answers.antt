@@ -1,4 +1,4 @@
 use Rattle.rewriting.proofs.rests.split_rest.Goals as goal
 
-pub returns-in-err-whole : goal.returns-in-err-whole
-returns-in-err-whole g c = rw c.from-residual.ensures (c.in-err-whole.ensures _)
+pub returns-in_err-whole : goal.returns-in_err-whole
+returns-in_err-whole g c = rw c.from-residual.ensures (c.in_err-whole.ensures _)

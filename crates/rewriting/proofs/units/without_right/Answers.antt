@@ -6,20 +6,20 @@ use Rattle.rewriting.specs.Tables.{standing}
 use Rattle.rewriting.proofs.Forms.{parted, rested, planned_when, unit_right_lem}
 use Rattle.rewriting.proofs.units.without_right.Goals as goal
 
-pub returns-in-err-a : goal.returns-in-err-a
-returns-in-err-a g c =
+pub returns-in_err-a : goal.returns-in_err-a
+returns-in_err-a g c =
     let f = g.K.Kind.numbers_of in
     let row = c.args.row.now in
-    rw c.from-residual.ensures (unit_right_lem g.K.Kind.model c.args.join (standing f row c.args.at) ∙ c.in-err-a.ensures _)
+    rw c.from-residual.ensures (unit_right_lem g.K.Kind.model c.args.join (standing f row c.args.at) ∙ c.in_err-a.ensures _)
 
-pub returns-in-err-ticks : goal.returns-in-err-ticks
-returns-in-err-ticks g c =
+pub returns-in_err-ticks : goal.returns-in_err-ticks
+returns-in_err-ticks g c =
     let f = g.K.Kind.numbers_of in
     let row = c.args.row.now in
-    rw c.from-residual-in-err-ticks.ensures (unit_right_lem g.K.Kind.model c.args.join (standing f row c.args.at) ∙ parted f row c.in-ok-a.ensures _ ∙ c.in-err-ticks.ensures _)
+    rw c.from-residual-in_err-ticks.ensures (unit_right_lem g.K.Kind.model c.args.join (standing f row c.args.at) ∙ parted f row c.in_ok-a.ensures _ ∙ c.in_err-ticks.ensures _)
 
 pub returns : goal.returns
 returns g c =
     let f = g.K.Kind.numbers_of in
     let row = c.args.row.now in
-    planned_when f row (eqb c.in-ok-ticks.ticks 0) (Simple (One (Part c.in-ok-a.a))) c.when.ensures (unit_right_lem g.K.Kind.model c.args.join (standing f row c.args.at) ∙ parted f row c.in-ok-a.ensures _ ∙ rested f row c.in-ok-a.unit c.in-ok-ticks.ensures _) c.in-ok-a.ensures.left_inside
+    planned_when f row (eqb c.in_ok-ticks.ticks 0) (Simple (One (Part c.in_ok-a.a))) c.when.ensures (unit_right_lem g.K.Kind.model c.args.join (standing f row c.args.at) ∙ parted f row c.in_ok-a.ensures _ ∙ rested f row c.in_ok-a.unit c.in_ok-ticks.ensures _) c.in_ok-a.ensures.left_inside

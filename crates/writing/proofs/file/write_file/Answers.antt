@@ -1,8 +1,8 @@
 use Rattle.writing.proofs.Copies.{held_bytes}
 use Rattle.writing.proofs.file.write_file.Goals as goal
 
-pub write-told-requires : goal.write-told-requires
-write-told-requires g c =
+pub write_told-requires : goal.write_told-requires
+write_told-requires g c =
     let met = g.met.K.Kind in
     record {
       whole = c.requires.held.whole;

@@ -10,4 +10,4 @@ returns c =
     let bytes = c.args.bytes.now in
     let n = length bytes in
     let same : n ≡ to + n - to = omega arith in
-    record { row = put_mid-paste to (to + n - to) out _ bytes n c.copy-from-slice.ensures.after same refl ∙ paste_all out to bytes n refl; ends = refl }
+    record { row = put_mid-paste to (to + n - to) out _ bytes n c.copy_from_slice.ensures.after same refl ∙ paste_all out to bytes n refl; ends = refl }

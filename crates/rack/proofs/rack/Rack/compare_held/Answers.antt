@@ -16,7 +16,7 @@ returns g c =
     let s = score_held held c.args.first in
     let t = score_held held c.args.second in
     let answer = c.compare.result in
-    let is : answer ≡ said (compared K s t) = c.compare.ensures ∙ ap₂ (λ a b. said (compared K a b)) c.nodes-at.ensures.score c.nodes-at-2.ensures.score in
-    let s-legal : Legal K s = subst (Legal K) c.nodes-at.ensures.score (legal_row K met.lawful.lengths f met.legal c.nodes-at.result.now) in
-    let t-legal : Legal K t = subst (Legal K) c.nodes-at-2.ensures.score (legal_row K met.lawful.lengths f met.legal c.nodes-at-2.result.now) in
+    let is : answer ≡ said (compared K s t) = c.compare.ensures ∙ ap₂ (λ a b. said (compared K a b)) c.nodes_at.ensures.score c.nodes_at-2.ensures.score in
+    let s-legal : Legal K s = subst (Legal K) c.nodes_at.ensures.score (legal_row K met.lawful.lengths f met.legal c.nodes_at.result.now) in
+    let t-legal : Legal K t = subst (Legal K) c.nodes_at-2.ensures.score (legal_row K met.lawful.lengths f met.legal c.nodes_at-2.result.now) in
     record { answer = is; same = same_exactly K s t answer is; only = only_answer K s t answer is met.lawful.order s-legal t-legal }

@@ -7,8 +7,8 @@ use Rattle.rack.proofs.rack.Rack.put_rest.Goals as goal
 pub put-requires : goal.put-requires
 put-requires g c = omega (arith, segment_within c.args.self.now.row.nodes.now c.args.to c.requires.known)
 
-pub invariant-of-self : goal.invariant-of-self
-invariant-of-self g c =
+pub invariant_of-self : goal.invariant_of-self
+invariant_of-self g c =
     score_sound g.K.Kind.model g.K.Kind.numbers_of c.args.self.now _ c.args.to (rest c.args.ticks) _ c.requires.known
     c.put.ensures (record { few_nodes = omega arith; few_primitives = omega arith; short = c.requires.short }) refl
 

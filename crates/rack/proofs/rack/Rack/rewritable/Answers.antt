@@ -13,8 +13,8 @@ returns-then-node-count g c =
     let f = g.K.Kind.numbers_of in
     let ns = rack.row.nodes.now in
     let p = c.args.place in
-    let h = c.in-ok-known.ensures.within in
-    let z = c.in-ok-holding.ensures.held in
+    let h = c.in_ok-known.ensures.within in
+    let z = c.in_ok-holding.ensures.held in
     let h' : p < number (view f ns) = omega (arith, number_view f ns, h) in
     let s = standing f ns rack.places rack.sound p h z in
     record { answer = node_no (shelf f rack) p c.args.node _ (clear_passes (view f ns) rack.places p h' z) s.full c.if-node-count.true; ready = tt }
@@ -25,8 +25,8 @@ returns g c =
     let f = g.K.Kind.numbers_of in
     let ns = rack.row.nodes.now in
     let p = c.args.place in
-    let h = c.in-ok-known.ensures.within in
-    let z = c.in-ok-holding.ensures.held in
+    let h = c.in_ok-known.ensures.within in
+    let z = c.in_ok-holding.ensures.held in
     let h' : p < number (view f ns) = omega (arith, number_view f ns, h) in
     let s = standing f ns rack.places rack.sound p h z in
     record {

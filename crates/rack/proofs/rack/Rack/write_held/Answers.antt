@@ -9,8 +9,8 @@ use Rattle.rack.proofs.Writing.{file_written}
 use Rattle.rack.proofs.Standing.{standing}
 use Rattle.rack.proofs.rack.Rack.write_held.Goals as goal
 
-pub write-file-requires : goal.write-file-requires
-write-file-requires g c = record { held = c.nodes-at.ensures.held; counted = c.noted-noted.ensures.primitives ∙ ap primitives (sym c.nodes-at.ensures.score) }
+pub write_file-requires : goal.write_file-requires
+write_file-requires g c = record { held = c.nodes_at.ensures.held; counted = c.noted-noted.ensures.primitives ∙ ap primitives (sym c.nodes_at.ensures.score) }
 
 pub returns : goal.returns
 returns g c =
@@ -20,15 +20,15 @@ returns g c =
     let met = g.met.K.Kind in
     let t = score_held (shelf f rack) c.args.place in
     let s = standing f rack.row.nodes.now rack.places rack.sound c.args.place c.requires.known c.requires.held in
-    let bytes = ap (file_bytes K) c.nodes-at.ensures.score in
-    let answered : c.write-file.result ≡ written_answer (file_bytes K t) (length c.args.buffer.now) =
-    c.write-file.ensures.answer ∙ ap (λ b. written_answer b (length c.args.buffer.now)) bytes in
-    let over : c.write-file.new.buffer ≡ written_over c.write-file.result (file_bytes K t) c.args.buffer.now =
-    c.write-file.ensures.after ∙ ap (λ b. written_over c.write-file.result b c.args.buffer.now) bytes in
-    let legal : Legal K t = subst (Legal K) c.nodes-at.ensures.score (legal_row K met.lawful.lengths f met.legal c.nodes-at.result.now) in
+    let bytes = ap (file_bytes K) c.nodes_at.ensures.score in
+    let answered : c.write_file.result ≡ written_answer (file_bytes K t) (length c.args.buffer.now) =
+    c.write_file.ensures.answer ∙ ap (λ b. written_answer b (length c.args.buffer.now)) bytes in
+    let over : c.write_file.new.buffer ≡ written_over c.write_file.result (file_bytes K t) c.args.buffer.now =
+    c.write_file.ensures.after ∙ ap (λ b. written_over c.write_file.result b c.args.buffer.now) bytes in
+    let legal : Legal K t = subst (Legal K) c.nodes_at.ensures.score (legal_row K met.lawful.lengths f met.legal c.nodes_at.result.now) in
     record {
       answer = answered;
       after = over;
-      file = subst (λ b. IfOk c.write-file.result (λ n. FileOf K t (take n b))) (sym over)
-          (file_written K met.lawful t legal (omega (arith, s.full, s.few_nodes)) (omega (arith, s.count, s.few_primitives)) c.write-file.result (length c.args.buffer.now) c.args.buffer.now answered);
+      file = subst (λ b. IfOk c.write_file.result (λ n. FileOf K t (take n b))) (sym over)
+          (file_written K met.lawful t legal (omega (arith, s.full, s.few_nodes)) (omega (arith, s.count, s.few_primitives)) c.write_file.result (length c.args.buffer.now) c.args.buffer.now answered);
     }

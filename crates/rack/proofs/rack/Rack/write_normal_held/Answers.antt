@@ -12,8 +12,8 @@ use Rattle.rack.proofs.Standing.{standing, holdable_there}
 use Rattle.rack.proofs.NormalFiles.{bytes_decide, made_always}
 use Rattle.rack.proofs.rack.Rack.write_normal_held.Goals as goal
 
-pub write-normal-from-requires : goal.write-normal-from-requires
-write-normal-from-requires g c =
+pub write_normal_from-requires : goal.write_normal_from-requires
+write_normal_from-requires g c =
     let rack = c.args.self.now in
     let f = g.K.Kind.numbers_of in
     let ns = rack.row.nodes.now in
@@ -48,7 +48,7 @@ returns g c =
     (holdable_there f ns rack.places rack.sound p c.requires.first_known c.requires.first_held K met.lawful.lengths met.legal short)
     (holdable_there f ns rack.places rack.sound m c.requires.second_known c.requires.second_held K met.lawful.lengths met.legal long) in
     record {
-      answer = c.write-normal-from.ensures.answer ∙ ap₂ (λ s t. written_answer (normal_bytes K s t) (length c.args.buffer.now)) own_is other-is;
-      after = c.write-normal-from.ensures.after ∙ ap₂ (λ s t. written_over c.write-normal-from.result (normal_bytes K s t) c.args.buffer.now) own_is other-is;
-      decides = made_always c.write-normal-from.result decided;
+      answer = c.write_normal_from.ensures.answer ∙ ap₂ (λ s t. written_answer (normal_bytes K s t) (length c.args.buffer.now)) own_is other-is;
+      after = c.write_normal_from.ensures.after ∙ ap₂ (λ s t. written_over c.write_normal_from.result (normal_bytes K s t) c.args.buffer.now) own_is other-is;
+      decides = made_always c.write_normal_from.result decided;
     }

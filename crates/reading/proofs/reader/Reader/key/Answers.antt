@@ -7,12 +7,12 @@ use Rattle.reading.proofs.Composition.{refused_up, fault_map, same_stopped, pass
 use Rattle.reading.proofs.Steps.{has_first, has_only, no_mark, one_text, text_one, just_passed, key_more, key_fault, nothing_passed, passed_between}
 use Rattle.reading.proofs.reader.Reader.key.Goals as goal
 
-pub returns-in-err-mark : goal.returns-in-err-mark
-returns-in-err-mark c =
+pub returns-in_err-mark : goal.returns-in_err-mark
+returns-in_err-mark c =
     let inv = c.loop-b.invariant in
     refused_up _ _ c.from-residual.result _ c.from-residual.ensures.1
     (fault_map (λ o k. key_fault _ c.loop-b.b-index c.loop-b-test.true inv.passed (same_stopped (one_text _) (text_one _) (λ z h. h) k))
-    (faulty_kept inv.text inv.section (no_mark _ _ (has_first _ []) c.in-err-mark.ensures)))
+    (faulty_kept inv.text inv.section (no_mark _ _ (has_first _ []) c.in_err-mark.ensures)))
 
 pub loop-b-init : goal.loop-b-init
 loop-b-init c = record { text = refl; section = refl; passed = nothing_passed _ _ c.args.self.now.within }
@@ -20,7 +20,7 @@ loop-b-init c = record { text = refl; section = refl; passed = nothing_passed _ 
 pub loop-b-preserved : goal.loop-b-preserved
 loop-b-preserved c =
     let inv = c.loop-b.invariant in
-    let told = c.in-ok-mark.ensures in
+    let told = c.in_ok-mark.ensures in
     let over = told.taken.over in
     record {
       text = over.text ∙ inv.text;

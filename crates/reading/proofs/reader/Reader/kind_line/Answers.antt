@@ -11,30 +11,30 @@ use Rattle.reading.proofs.reader.Reader.kind_line.Goals as goal
 newline : NoLetter 10
 newline d = omega arith
 
-pub returns-in-err-key : goal.returns-in-err-key
-returns-in-err-key c =
+pub returns-in_err-key : goal.returns-in_err-key
+returns-in_err-key c =
     refused_up _ _ c.from-residual.result _ c.from-residual.ensures.1
-    (line_key _ Name NoLetter newline _ some_name c.args.self.now c.in-err-key.ensures)
+    (line_key _ Name NoLetter newline _ some_name c.args.self.now c.in_err-key.ensures)
 
-pub returns-in-err-name : goal.returns-in-err-name
-returns-in-err-name c =
-    refused_up _ _ c.from-residual-in-err-name.result _ c.from-residual-in-err-name.ensures.1
-    (line_word _ Name NoLetter newline _ some_name c.in-ok-key.ensures.over c.in-err-name.ensures)
+pub returns-in_err-name : goal.returns-in_err-name
+returns-in_err-name c =
+    refused_up _ _ c.from-residual-in_err-name.result _ c.from-residual-in_err-name.ensures.1
+    (line_word _ Name NoLetter newline _ some_name c.in_ok-key.ensures.over c.in_err-name.ensures)
 
-pub returns-in-err-key-2 : goal.returns-in-err-key-2
-returns-in-err-key-2 c =
-    refused_up _ _ c.from-residual-in-err-key-2.result _ c.from-residual-in-err-key-2.ensures.1
-    (line_end _ Name NoLetter newline _ some_name c.in-ok-key.ensures.over c.in-ok-name.ensures.1.over c.in-err-key-2.ensures)
+pub returns-in_err-key-2 : goal.returns-in_err-key-2
+returns-in_err-key-2 c =
+    refused_up _ _ c.from-residual-in_err-key-2.result _ c.from-residual-in_err-key-2.ensures.1
+    (line_end _ Name NoLetter newline _ some_name c.in_ok-key.ensures.over c.in_ok-name.ensures.1.over c.in_err-key-2.ensures)
 
 pub returns : goal.returns
 returns c =
-    let key = c.in-ok-key.ensures.over in
-    let name = c.in-ok-name.ensures.1 in
+    let key = c.in_ok-key.ensures.over in
+    let name = c.in_ok-name.ensures.1 in
     let bytes = handed_bytes name (λ l. refl) c.lexeme.ensures in
     record {
       offset = handed_offset name (λ l. refl) c.lexeme.ensures ∙ key.passed.moved;
       name = subst Name (sym bytes) name.over.passed.is;
       over =
           subst (λ w. Over KindLine Any (line (codes "kind=") w) c.args.self.now c.key-2.new.self) (sym bytes)
-          (line_over _ Name NoLetter newline _ some_name key name.over c.in-ok-key-2.ensures.over);
+          (line_over _ Name NoLetter newline _ some_name key name.over c.in_ok-key-2.ensures.over);
     }

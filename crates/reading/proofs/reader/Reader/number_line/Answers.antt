@@ -11,27 +11,27 @@ newline d = omega arith
 some : (limit : ℕ) → Numeral limit (decimal 0)
 some limit = (0, omega arith, refl)
 
-pub returns-in-err-key : goal.returns-in-err-key
-returns-in-err-key c =
+pub returns-in_err-key : goal.returns-in_err-key
+returns-in_err-key c =
     refused_up _ _ c.from-residual.result _ c.from-residual.ensures.1
-    (line_key _ (Numeral c.args.limit) NoDigit newline _ (some _) c.args.self.now c.in-err-key.ensures)
+    (line_key _ (Numeral c.args.limit) NoDigit newline _ (some _) c.args.self.now c.in_err-key.ensures)
 
-pub returns-in-err-number : goal.returns-in-err-number
-returns-in-err-number c =
-    refused_up _ _ c.from-residual-in-err-number.result _ c.from-residual-in-err-number.ensures.1
-    (line_word _ (Numeral c.args.limit) NoDigit newline _ (some _) c.in-ok-key.ensures.over c.in-err-number.ensures)
+pub returns-in_err-number : goal.returns-in_err-number
+returns-in_err-number c =
+    refused_up _ _ c.from-residual-in_err-number.result _ c.from-residual-in_err-number.ensures.1
+    (line_word _ (Numeral c.args.limit) NoDigit newline _ (some _) c.in_ok-key.ensures.over c.in_err-number.ensures)
 
-pub returns-in-err-key-2 : goal.returns-in-err-key-2
-returns-in-err-key-2 c =
-    refused_up _ _ c.from-residual-in-err-key-2.result _ c.from-residual-in-err-key-2.ensures.1
-    (line_end _ (Numeral c.args.limit) NoDigit newline _ (some _) c.in-ok-key.ensures.over c.in-ok-number.ensures.over c.in-err-key-2.ensures)
+pub returns-in_err-key-2 : goal.returns-in_err-key-2
+returns-in_err-key-2 c =
+    refused_up _ _ c.from-residual-in_err-key-2.result _ c.from-residual-in_err-key-2.ensures.1
+    (line_end _ (Numeral c.args.limit) NoDigit newline _ (some _) c.in_ok-key.ensures.over c.in_ok-number.ensures.over c.in_err-key-2.ensures)
 
 pub returns : goal.returns
 returns c =
-    let key = c.in-ok-key.ensures.over in
-    let number = c.in-ok-number.ensures in
+    let key = c.in_ok-key.ensures.over in
+    let number = c.in_ok-number.ensures in
     record {
       offset = number.offset ∙ key.passed.moved;
       small = number.small;
-      over = line_over _ (Numeral c.args.limit) NoDigit newline _ (some _) key number.over c.in-ok-key-2.ensures.over;
+      over = line_over _ (Numeral c.args.limit) NoDigit newline _ (some _) key number.over c.in_ok-key-2.ensures.over;
     }

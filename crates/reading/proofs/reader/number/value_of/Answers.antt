@@ -14,8 +14,8 @@ returns-then-value-eq0 c = record {
   stopped = leading_zero c.args.limit (omega arith) _ c.requires.digits c.loop-i.i c.loop-i.value c.loop-i-test.true c.loop-i.invariant c.if-i-gt0.true c.if-value-eq0.true;
 }
 
-pub overflow-sub-b : goal.overflow-sub-b
-overflow-sub-b c = (All-get_or Digit _ c.loop-i.i 0 (omega arith) c.requires.digits).0
+pub overflow_sub-b : goal.overflow_sub-b
+overflow_sub-b c = (All-get_or Digit _ c.loop-i.i 0 (omega arith) c.requires.digits).0
 
 pub returns-then-longer-from : goal.returns-then-longer-from
 returns-then-longer-from c =

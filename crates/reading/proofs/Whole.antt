@@ -1,5 +1,5 @@
 -- From the parts of a file to the file.
-use Rattle.std.proofs.Common.{◌≡◌, ℕ, ◌+◌, ◌≤◌, List, [], ◌∷◌, ◌++◌, length, get_or, take, drop, codes, decimal, sym, refl, ap, ◌∙◌, subst, append_assoc, append-nil, arith, take-append-drop, MutBor}
+use Rattle.std.proofs.Common.{◌≡◌, ℕ, ◌+◌, ◌≤◌, List, [], ◌∷◌, ◌++◌, length, get_or, take, drop, codes, decimal, sym, refl, ap, ◌∙◌, subst, append_assoc, append-nil, arith, take-append-drop, Bor}
 use mathlib.Core.List.{append_cancel_right}
 use Rattle.std.proofs.lemmas.List.{drop_more, drop_all, take_more, length-append}
 use Rattle.refusals.specs.declared.refusal.Refusal.{Refusal}
@@ -199,7 +199,7 @@ tail_4 p q r h = fault_then (follows_any _) p (fault_then ending_follows q (faul
 pub tail_split : {v w x : List ℕ} {s t u y : Reader} → Over (Just (codes "body=")) Any v s t → Over Body NoDigit w t u → Over (Just ending) Any x u y → y.at ≡ length y.text.now → drop s.at s.text.now ≡ v ++ (w ++ x)
 tail_split {v} {w} {x} {s} {t} {u} {y} p q r e =
     let whole = over_then {H = Any} (follows_any _) p (over_then {H = Any} (follows_any _) (record { text = q.text; section = q.section; passed = just_passed q.passed }) r) in
-    let none : drop y.at s.text.now ≡ [] = drop_all y.at s.text.now (omega (arith, ap (λ (k : MutBor (List ℕ)). length k.now) whole.text)) in
+    let none : drop y.at s.text.now ≡ [] = drop_all y.at s.text.now (omega (arith, ap (λ (k : Bor (List ℕ)). length k.now) whole.text)) in
     whole.passed.split ∙ ap (λ l. (v ++ (w ++ x)) ++ l) none ∙ append-nil (v ++ (w ++ x))
 
 -- a text whose head is read

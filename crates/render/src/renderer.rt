@@ -42,10 +42,10 @@ pub trait Renderer {
 
 // Enters all things of a list, one after the other. What order they come in makes no difference to the picture.
 pub fn enter_all<R: Renderer>(renderer: &mut R, entries: &[Entry])
-    ensures settings { settings_of renderer.new ≡ settings_of renderer.old }
-    ensures picture { picture_of renderer.new ≡ entered_all (entered (settings_of renderer.old)) entries.now (picture_of renderer.old) }
-    ensures order { InAnyOrder entered }
-    ensures spared { StaysSpared spares renderer.old renderer.new }
+    ensures settings { R.Renderer.settings_of renderer.new ≡ R.Renderer.settings_of renderer.old }
+    ensures picture { R.Renderer.picture_of renderer.new ≡ entered_all (R.Renderer.entered (R.Renderer.settings_of renderer.old)) entries.now (R.Renderer.picture_of renderer.old) }
+    ensures order { InAnyOrder R.Renderer.entered }
+    ensures spared { StaysSpared R.Renderer.spares renderer.old renderer.new }
 {
     for entry in entries {
         renderer.enter(*entry);

@@ -45,8 +45,8 @@ pub returns-in_err-check_few : goal.returns-in_err-check_few
 returns-in_err-check_few g c =
     let K = g.K.Kind.model in
     let s = changed K c.args.change (score_of (view g.K.Kind.numbers_of c.args.row.now)) in
-    let p = err_from_is_err_and c.from-residual.result c.from-residual.ensures.1 in
-    refused_few K s (view g.K.Kind.numbers_of c.args.target.now) c.from-residual.result _ (p.1 ∙ ap Err p.2) c.in_err-check_few.ensures.answer
+    let p = err_from_is_err_and c.from_residual.result c.from_residual.ensures.1 in
+    refused_few K s (view g.K.Kind.numbers_of c.args.target.now) c.from_residual.result _ (p.1 ∙ ap Err p.2) c.in_err-check_few.ensures.answer
 
 pub returns : goal.returns
 returns g c =

@@ -11,7 +11,7 @@ returns-in_err-limits g c = λ s stands long.
     let xs = view g.K.Kind.numbers_of c.args.row.now in
     let inside : c.args.nodes ≤ length xs = omega (arith, length-map c.args.row.now (seen g.K.Kind.numbers_of), c.requires.inside) in
     let is = size_is K s xs c.args.nodes c.count_primitives.result c.args.length inside stands long (c.count_primitives.ensures s) in
-    let p = err_from_is_err_and c.from-residual.result c.from-residual.ensures.1 in
+    let p = err_from_is_err_and c.from_residual.result c.from_residual.ensures.1 in
     p.1 ∙ ap Err p.2 ∙ sized_from K s _ _ is c.in_err-limits.ensures.answer
 
 pub returns : goal.returns

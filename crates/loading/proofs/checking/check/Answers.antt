@@ -4,12 +4,12 @@ use Rattle.loading.proofs.checking.check.Goals as goal
 
 pub returns-in_err-primitives : goal.returns-in_err-primitives
 returns-in_err-primitives g c f d =
-    let p = err_from_is_err_and c.from-residual.result c.from-residual.ensures.1 in
+    let p = err_from_is_err_and c.from_residual.result c.from_residual.ensures.1 in
     rw (p.1, p.2) (too_many g.K.Kind.model f c.args.head c.args.items.now d _ c.in_err-primitives.ensures)
 
 pub returns-in_err-check_legal : goal.returns-in_err-check_legal
 returns-in_err-check_legal g c f d =
-    let p = err_from_is_err_and c.from-residual-in_err-check_legal.result c.from-residual-in_err-check_legal.ensures.1 in
+    let p = err_from_is_err_and c.from_residual-in_err-check_legal.result c.from_residual-in_err-check_legal.ensures.1 in
     rw (p.1, p.2)
     (illegal_one g.K.Kind.model f c.args.head c.args.items.now d _ c.in_ok-primitives.ensures _ c.in_err-check_legal.ensures)
 

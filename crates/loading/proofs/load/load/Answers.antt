@@ -7,7 +7,7 @@ use Rattle.loading.proofs.load.load.Goals as goal
 
 pub returns-in_err-head : goal.returns-in_err-head
 returns-in_err-head g c =
-    gives_refused g.K.Kind.model c.args.reading.text.now _ _ (c.as_bytes.ensures.value ∙ c.name-name.ensures) c.from-residual.result _ c.from-residual.ensures.1 c.in_err-head.ensures
+    gives_refused g.K.Kind.model c.args.reading.text.now _ _ (c.as_bytes.ensures.value ∙ c.name-name.ensures) c.from_residual.result _ c.from_residual.ensures.1 c.in_err-head.ensures
 
 pub returns : goal.returns
 returns g c =

@@ -5,19 +5,19 @@ use Rattle.rewriting.proofs.Forms.{parted, rested}
 use Rattle.rewriting.proofs.rests.merge_rests.Goals as goal
 
 pub returns-in_err-left : goal.returns-in_err-left
-returns-in_err-left g c = rw c.from-residual.ensures (c.in_err-left.ensures _)
+returns-in_err-left g c = rw c.from_residual.ensures (c.in_err-left.ensures _)
 
 pub returns-in_err-first : goal.returns-in_err-first
 returns-in_err-first g c =
     let f = g.K.Kind.numbers_of in
     let row = c.args.row.now in
-    rw c.from-residual-in_err-first.ensures (parted f row c.in_ok-left.ensures _ ∙ c.in_err-first.ensures _)
+    rw c.from_residual-in_err-first.ensures (parted f row c.in_ok-left.ensures _ ∙ c.in_err-first.ensures _)
 
 pub returns-in_err-second : goal.returns-in_err-second
 returns-in_err-second g c =
     let f = g.K.Kind.numbers_of in
     let row = c.args.row.now in
-    rw c.from-residual-in_err-second.ensures (parted f row c.in_ok-left.ensures _ ∙ rested f row c.in_ok-left.left c.in_ok-first.ensures _ ∙ c.in_err-second.ensures _)
+    rw c.from_residual-in_err-second.ensures (parted f row c.in_ok-left.ensures _ ∙ rested f row c.in_ok-left.left c.in_ok-first.ensures _ ∙ c.in_err-second.ensures _)
 
 pub overflow_add-result : goal.overflow_add-result
 overflow_add-result g c =

@@ -10,13 +10,13 @@ pub returns-in_err-a : goal.returns-in_err-a
 returns-in_err-a g c =
     let f = g.K.Kind.numbers_of in
     let row = c.args.row.now in
-    rw c.from-residual.ensures (unit_right_lem g.K.Kind.model c.args.join (standing f row c.args.at) ∙ c.in_err-a.ensures _)
+    rw c.from_residual.ensures (unit_right_lem g.K.Kind.model c.args.join (standing f row c.args.at) ∙ c.in_err-a.ensures _)
 
 pub returns-in_err-ticks : goal.returns-in_err-ticks
 returns-in_err-ticks g c =
     let f = g.K.Kind.numbers_of in
     let row = c.args.row.now in
-    rw c.from-residual-in_err-ticks.ensures (unit_right_lem g.K.Kind.model c.args.join (standing f row c.args.at) ∙ parted f row c.in_ok-a.ensures _ ∙ c.in_err-ticks.ensures _)
+    rw c.from_residual-in_err-ticks.ensures (unit_right_lem g.K.Kind.model c.args.join (standing f row c.args.at) ∙ parted f row c.in_ok-a.ensures _ ∙ c.in_err-ticks.ensures _)
 
 pub returns : goal.returns
 returns g c =

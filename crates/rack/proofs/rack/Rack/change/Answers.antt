@@ -38,7 +38,7 @@ returns-in_err-size g c =
     let ready = makes.ready in
     let there = standing f rack.row.nodes.now rack.places rack.sound c.args.from ready.from_known ready.from_held in
     let s = changed K c.args.change (score_held (shelf f rack) c.args.from) in
-    let p = err_from_is_err_and c.from-residual-in_err-size.result c.from-residual-in_err-size.ensures.1 in
+    let p = err_from_is_err_and c.from_residual-in_err-size.result c.from_residual-in_err-size.ensures.1 in
     let is = refused K s _ (c.in_err-size.ensures.answer ∙ ap (λ t. sized K (changed K c.args.change t)) (sym there.used_is)) in
     record {
       answer = p.1 ∙ ap Err p.2 ∙ is ∙ sym (all_after (makeable (shelf f rack) c.args.to c.args.from) (limits K s) (sym makes.answer));

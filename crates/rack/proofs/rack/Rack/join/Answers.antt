@@ -53,7 +53,7 @@ returns-in_err-limits g c =
     let f = g.K.Kind.numbers_of in
     let joins = c.in_ok-joinable.ensures in
     let answered = join_answer_lem f rack c.args.to c.args.first c.args.second joins.ready g.K.Kind.model c.args.joint _ _ _ c.length.ensures c.length-2.ensures c.length-3.ensures joins.answer in
-    let p = err_from_is_err_and c.from-residual-in_err-limits.result c.from-residual-in_err-limits.ensures.1 in
+    let p = err_from_is_err_and c.from_residual-in_err-limits.result c.from_residual-in_err-limits.ensures.1 in
     record {
       answer = p.1 ∙ ap Err p.2 ∙ c.in_err-limits.ensures.answer ∙ answered;
       after = sym (ap (λ r. put r (shelf f rack) c.args.to (joined_at c.args.joint (shelf f rack) c.args.first c.args.second)) p.1);

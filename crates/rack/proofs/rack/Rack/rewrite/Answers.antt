@@ -22,7 +22,7 @@ returns-in_err-step g c =
     let rack = c.args.self.now in
     let place = c.args.place in
     let goal = stepped_at K (shelf f rack) place c.args.node (step_named c.args.rule c.args.way c.args.split) in
-    let p = err_from_is_err_and c.from-residual.result c.from-residual.ensures.1 in
+    let p = err_from_is_err_and c.from_residual.result c.from_residual.ensures.1 in
     let is = refused_by_step K (shelf f rack) place c.args.node c.args.rule c.args.way c.args.split _ c.in_err-step.ensures.answer in
     record { answer = p.1 ∙ ap Err p.2 ∙ is; after = sym (ap (λ r. put r (shelf f rack) place (score_in goal)) p.1) }
 
@@ -33,7 +33,7 @@ returns-in_err-rewritable g c =
     let rack = c.args.self.now in
     let place = c.args.place in
     let goal = stepped_at K (shelf f rack) place c.args.node (step_named c.args.rule c.args.way c.args.split) in
-    let p = err_from_is_err_and c.from-residual-in_err-rewritable.result c.from-residual-in_err-rewritable.ensures.1 in
+    let p = err_from_is_err_and c.from_residual-in_err-rewritable.result c.from_residual-in_err-rewritable.ensures.1 in
     let is = refused_by_node K (shelf f rack) place c.args.node c.args.rule c.args.way c.args.split c.in_ok-step.ensures.answer _ c.in_err-rewritable.ensures.answer in
     record { answer = p.1 ∙ ap Err p.2 ∙ is; after = sym (ap (λ r. put r (shelf f rack) place (score_in goal)) p.1) }
 
@@ -59,7 +59,7 @@ returns-in_err-size g c =
     let there = standing f rack.row.nodes.now rack.places rack.sound place rewrites.ready.known rewrites.ready.held in
     let goal = stepped_at K (shelf f rack) place node (step_named c.args.rule c.args.way c.args.split) in
     let same = ap (stepped K (Some c.in_ok-step.step) node) (sym there.used_is) ∙ ap (stepped_at K (shelf f rack) place node) c.in_ok-step.ensures.step in
-    let p = err_from_is_err_and c.from-residual-in_err-size.result c.from-residual-in_err-size.ensures.1 in
+    let p = err_from_is_err_and c.from_residual-in_err-size.result c.from_residual-in_err-size.ensures.1 in
     let is = refused_by_result K (shelf f rack) place node c.args.rule c.args.way c.args.split c.in_ok-step.ensures.answer rewrites.answer _
     (c.in_err-size.ensures.answer ∙ ap (stepped_size K node) same) in
     record {

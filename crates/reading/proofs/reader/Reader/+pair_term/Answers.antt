@@ -13,21 +13,21 @@ use Rattle.reading.proofs.reader.Reader.+pair_term.Goals as goal
 
 pub pair-returns-in_err-term : goal.pair-returns-in_err-term
 pair-returns-in_err-term t c =
-    refused_up _ _ c.from-residual.result _ c.from-residual.ensures.1 (inside_1 c.args.self.now c.in_err-term.ensures)
+    refused_up _ _ c.from_residual.result _ c.from_residual.ensures.1 (inside_1 c.args.self.now c.in_err-term.ensures)
 
 pub pair-returns-in_err-node : goal.pair-returns-in_err-node
 pair-returns-in_err-node t c =
-    refused_up _ _ c.from-residual-in_err-node.result _ c.from-residual-in_err-node.ensures.1
+    refused_up _ _ c.from_residual-in_err-node.result _ c.from_residual-in_err-node.ensures.1
     (inside_2 c.in_ok-term.ensures.over c.in_err-node.ensures)
 
 pub pair-returns-in_err-term-2 : goal.pair-returns-in_err-term-2
 pair-returns-in_err-term-2 t c =
-    refused_up _ _ c.from-residual-in_err-term-2.result _ c.from-residual-in_err-term-2.ensures.1
+    refused_up _ _ c.from_residual-in_err-term-2.result _ c.from_residual-in_err-term-2.ensures.1
     (inside_3 c.in_ok-term.ensures.over (sign_over c.in_ok-node.ensures).1 c.in_err-term-2.ensures)
 
 pub pair-returns-in_err-mark : goal.pair-returns-in_err-mark
 pair-returns-in_err-mark t c =
-    refused_up _ _ c.from-residual-in_err-mark.result _ c.from-residual-in_err-mark.ensures.1
+    refused_up _ _ c.from_residual-in_err-mark.result _ c.from_residual-in_err-mark.ensures.1
     (inside_4 c.in_ok-term.ensures.over (sign_over c.in_ok-node.ensures).1 c.in_ok-term-2.ensures.over c.in_err-mark.ensures)
 
 pub pair-returns : goal.pair-returns
@@ -37,21 +37,21 @@ pair-returns t c =
 
 pub term-returns-in_err-mark : goal.term-returns-in_err-mark
 term-returns-in_err-mark t c =
-    refused_up _ _ c.from-residual.result _ c.from-residual.ensures.1 (no_term c.in_err-mark.ensures)
+    refused_up _ _ c.from_residual.result _ c.from_residual.ensures.1 (no_term c.in_err-mark.ensures)
 
-pub term-returns-in_err-rest : goal.term-returns-in_err-rest
-term-returns-in_err-rest t c =
+pub term-returns-in_err-rest-in-114 : goal.term-returns-in_err-rest-in-114
+term-returns-in_err-rest-in-114 t c =
     let told = c.in_ok-mark.ensures in
     let byte = mark_byte told c.lexeme-mark.ensures in
-    refused_up _ _ c.from-residual-in_err-rest.result _ c.from-residual-in_err-rest.ensures.1
+    refused_up _ _ c.from_residual-in_err-rest.result _ c.from_residual-in_err-rest.ensures.1
     (rest_fault told.taken.over (sym byte ∙ c.in-114.is) c.in_err-rest.ensures)
 
-pub term-returns-in_err-numbers : goal.term-returns-in_err-numbers
-term-returns-in_err-numbers t c =
+pub term-returns-in_err-numbers-in_default : goal.term-returns-in_err-numbers-in_default
+term-returns-in_err-numbers-in_default t c =
     let told = c.in_ok-mark.ensures in
     let byte = mark_byte told c.lexeme-mark.ensures in
     let here = first_third told.one (λ e. omega (arith, byte, e)) (λ e. omega (arith, byte, e)) in
-    refused_up _ _ c.from-residual-in_err-numbers.result _ c.from-residual-in_err-numbers.ensures.1
+    refused_up _ _ c.from_residual-in_err-numbers.result _ c.from_residual-in_err-numbers.ensures.1
     (primitive_fault told.taken.over here c.in_err-numbers.ensures)
 
 pub term-returns-in-40 : goal.term-returns-in-40
@@ -69,8 +69,8 @@ term-returns-in-40 t c =
     })
     (λ e h. pair_fault told.taken.over here h)
 
-pub term-returns-in_ok-rest : goal.term-returns-in_ok-rest
-term-returns-in_ok-rest t c =
+pub term-returns-in_ok-rest-in-114 : goal.term-returns-in_ok-rest-in-114
+term-returns-in_ok-rest-in-114 t c =
     let told = c.in_ok-mark.ensures in
     let byte = mark_byte told c.lexeme-mark.ensures in
     let offset = mark_offset told c.lexeme-mark.ensures in
@@ -83,8 +83,8 @@ term-returns-in_ok-rest t c =
       drafted = c.push.ensures ∙ ap (λ o. take 1024 (drafted c.args.draft.now ++ items o (rest d))) offset;
     }
 
-pub term-returns-in_ok-numbers : goal.term-returns-in_ok-numbers
-term-returns-in_ok-numbers t c =
+pub term-returns-in_ok-numbers-in_default : goal.term-returns-in_ok-numbers-in_default
+term-returns-in_ok-numbers-in_default t c =
     let told = c.in_ok-mark.ensures in
     let byte = mark_byte told c.lexeme-mark.ensures in
     let offset = mark_offset told c.lexeme-mark.ensures in

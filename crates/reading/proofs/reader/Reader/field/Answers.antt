@@ -4,11 +4,11 @@ use Rattle.reading.proofs.reader.Reader.field.Goals as goal
 
 pub returns-in_err-number : goal.returns-in_err-number
 returns-in_err-number c =
-    refused_up _ _ c.from-residual.result _ c.from-residual.ensures.1 (field_first c.in_err-number.ensures)
+    refused_up _ _ c.from_residual.result _ c.from_residual.ensures.1 (field_first c.in_err-number.ensures)
 
 pub returns-in_err-mark : goal.returns-in_err-mark
 returns-in_err-mark c =
-    refused_up _ _ c.from-residual-in_err-mark.result _ c.from-residual-in_err-mark.ensures.1
+    refused_up _ _ c.from_residual-in_err-mark.result _ c.from_residual-in_err-mark.ensures.1
     (field_second c.in_ok-number.ensures.over c.in_err-mark.ensures)
 
 pub returns : goal.returns

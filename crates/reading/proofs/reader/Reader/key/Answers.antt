@@ -10,7 +10,7 @@ use Rattle.reading.proofs.reader.Reader.key.Goals as goal
 pub returns-in_err-mark : goal.returns-in_err-mark
 returns-in_err-mark c =
     let inv = c.loop-b.invariant in
-    refused_up _ _ c.from-residual.result _ c.from-residual.ensures.1
+    refused_up _ _ c.from_residual.result _ c.from_residual.ensures.1
     (fault_map (λ o k. key_fault _ c.loop-b.b-index c.loop-b-test.true inv.passed (same_stopped (one_text _) (text_one _) (λ z h. h) k))
     (faulty_kept inv.text inv.section (no_mark _ _ (has_first _ []) c.in_err-mark.ensures)))
 

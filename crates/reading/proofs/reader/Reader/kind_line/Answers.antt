@@ -13,17 +13,17 @@ newline d = omega arith
 
 pub returns-in_err-key : goal.returns-in_err-key
 returns-in_err-key c =
-    refused_up _ _ c.from-residual.result _ c.from-residual.ensures.1
+    refused_up _ _ c.from_residual.result _ c.from_residual.ensures.1
     (line_key _ Name NoLetter newline _ some_name c.args.self.now c.in_err-key.ensures)
 
 pub returns-in_err-name : goal.returns-in_err-name
 returns-in_err-name c =
-    refused_up _ _ c.from-residual-in_err-name.result _ c.from-residual-in_err-name.ensures.1
+    refused_up _ _ c.from_residual-in_err-name.result _ c.from_residual-in_err-name.ensures.1
     (line_word _ Name NoLetter newline _ some_name c.in_ok-key.ensures.over c.in_err-name.ensures)
 
 pub returns-in_err-key-2 : goal.returns-in_err-key-2
 returns-in_err-key-2 c =
-    refused_up _ _ c.from-residual-in_err-key-2.result _ c.from-residual-in_err-key-2.ensures.1
+    refused_up _ _ c.from_residual-in_err-key-2.result _ c.from_residual-in_err-key-2.ensures.1
     (line_end _ Name NoLetter newline _ some_name c.in_ok-key.ensures.over c.in_ok-name.ensures.1.over c.in_err-key-2.ensures)
 
 pub returns : goal.returns

@@ -27,7 +27,7 @@ returns-in_err-value c =
     let bad = subst (λ (s : Section). BadDigit c.args.limit told.digits c.args.self.now.at s e) told.taken.over.section
     (subst (λ o. BadDigit c.args.limit told.digits o c.digits.new.self.section e) offset
     (subst (λ ds. BadDigit c.args.limit ds c.lexeme-run.result.offset c.digits.new.self.section e) bytes c.in_err-value.ensures)) in
-    refused_up _ _ c.from-residual.result _ c.from-residual.ensures.1
+    refused_up _ _ c.from_residual.result _ c.from_residual.ensures.1
     (number_fault c.args.limit (omega arith) told.taken.over.passed told.ends _ _ bad)
 
 pub returns : goal.returns

@@ -13,17 +13,17 @@ some limit = (0, omega arith, refl)
 
 pub returns-in_err-key : goal.returns-in_err-key
 returns-in_err-key c =
-    refused_up _ _ c.from-residual.result _ c.from-residual.ensures.1
+    refused_up _ _ c.from_residual.result _ c.from_residual.ensures.1
     (line_key _ (Numeral c.args.limit) NoDigit newline _ (some _) c.args.self.now c.in_err-key.ensures)
 
 pub returns-in_err-number : goal.returns-in_err-number
 returns-in_err-number c =
-    refused_up _ _ c.from-residual-in_err-number.result _ c.from-residual-in_err-number.ensures.1
+    refused_up _ _ c.from_residual-in_err-number.result _ c.from_residual-in_err-number.ensures.1
     (line_word _ (Numeral c.args.limit) NoDigit newline _ (some _) c.in_ok-key.ensures.over c.in_err-number.ensures)
 
 pub returns-in_err-key-2 : goal.returns-in_err-key-2
 returns-in_err-key-2 c =
-    refused_up _ _ c.from-residual-in_err-key-2.result _ c.from-residual-in_err-key-2.ensures.1
+    refused_up _ _ c.from_residual-in_err-key-2.result _ c.from_residual-in_err-key-2.ensures.1
     (line_end _ (Numeral c.args.limit) NoDigit newline _ (some _) c.in_ok-key.ensures.over c.in_ok-number.ensures.over c.in_err-key-2.ensures)
 
 pub returns : goal.returns

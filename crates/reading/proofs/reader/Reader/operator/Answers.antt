@@ -6,7 +6,7 @@ use Rattle.reading.proofs.reader.Reader.operator.Goals as goal
 
 pub returns-in_err-mark : goal.returns-in_err-mark
 returns-in_err-mark c =
-    refused_up _ _ c.from-residual.result _ c.from-residual.ensures.1 (no_mark _ 43 (has_first 43 (124 ∷ [])) c.in_err-mark.ensures)
+    refused_up _ _ c.from_residual.result _ c.from_residual.ensures.1 (no_mark _ 43 (has_first 43 (124 ∷ [])) c.in_err-mark.ensures)
 
 pub returns-else-mark-eq124 : goal.returns-else-mark-eq124
 returns-else-mark-eq124 c =

@@ -11,19 +11,19 @@ returns-then-text-gt-MOST_BYTES c = oversize c.if-text-gt-MOST_BYTES.true
 
 pub returns-in_err-key : goal.returns-in_err-key
 returns-in_err-key c =
-    refused_up _ _ c.from-residual.result _ c.from-residual.ensures.1 (signature_refused _ (omega arith) _ c.in_err-key.ensures)
+    refused_up _ _ c.from_residual.result _ c.from_residual.ensures.1 (signature_refused _ (omega arith) _ c.in_err-key.ensures)
 
 pub returns-in_err-kind : goal.returns-in_err-kind
 returns-in_err-kind c =
     let sign = c.in_ok-key.ensures.over in
-    refused_up _ _ c.from-residual-in_err-kind.result _ c.from-residual-in_err-kind.ensures.1
+    refused_up _ _ c.from_residual-in_err-kind.result _ c.from_residual-in_err-kind.ensures.1
     (lines_refused _ _ (omega arith) sign.passed _
     (faulty_kept {y = section.Head} sign.text refl (fault_first (follows_any _) _ some_numbers c.in_err-kind.ensures)))
 
 pub returns-in_err-ticks : goal.returns-in_err-ticks
 returns-in_err-ticks c =
     let sign = c.in_ok-key.ensures.over in
-    refused_up _ _ c.from-residual-in_err-ticks.result _ c.from-residual-in_err-ticks.ensures.1
+    refused_up _ _ c.from_residual-in_err-ticks.result _ c.from_residual-in_err-ticks.ensures.1
     (lines_refused _ _ (omega arith) sign.passed _
     (faulty_kept {y = section.Head} sign.text refl
     (fault_then (follows_any _) c.in_ok-kind.ensures.over (fault_first (follows_any _) _ some_count c.in_err-ticks.ensures))))
@@ -31,7 +31,7 @@ returns-in_err-ticks c =
 pub returns-in_err-count : goal.returns-in_err-count
 returns-in_err-count c =
     let sign = c.in_ok-key.ensures.over in
-    refused_up _ _ c.from-residual-in_err-count.result _ c.from-residual-in_err-count.ensures.1
+    refused_up _ _ c.from_residual-in_err-count.result _ c.from_residual-in_err-count.ensures.1
     (lines_refused _ _ (omega arith) sign.passed _
     (faulty_kept {y = section.Head} sign.text refl
     (fault_then (follows_any _) c.in_ok-kind.ensures.over (fault_then (follows_any _) c.in_ok-ticks.ensures.over c.in_err-count.ensures))))

@@ -43,16 +43,16 @@ pub term-returns-in_err-rest-in-114 : goal.term-returns-in_err-rest-in-114
 term-returns-in_err-rest-in-114 t c =
     let told = c.in_ok-mark.ensures in
     let byte = mark_byte told c.lexeme-mark.ensures in
-    refused_up _ _ c.from_residual-in_err-rest.result _ c.from_residual-in_err-rest.ensures.1
-    (rest_fault told.taken.over (sym byte ∙ c.in-114.is) c.in_err-rest.ensures)
+    refused_up _ _ c.from_residual-in_err-rest-in-114.result _ c.from_residual-in_err-rest-in-114.ensures.1
+    (rest_fault told.taken.over (sym byte ∙ c.in-114.is) c.in_err-rest-in-114.ensures)
 
 pub term-returns-in_err-numbers-in_default : goal.term-returns-in_err-numbers-in_default
 term-returns-in_err-numbers-in_default t c =
     let told = c.in_ok-mark.ensures in
     let byte = mark_byte told c.lexeme-mark.ensures in
     let here = first_third told.one (λ e. omega (arith, byte, e)) (λ e. omega (arith, byte, e)) in
-    refused_up _ _ c.from_residual-in_err-numbers.result _ c.from_residual-in_err-numbers.ensures.1
-    (primitive_fault told.taken.over here c.in_err-numbers.ensures)
+    refused_up _ _ c.from_residual-in_err-numbers-in_default.result _ c.from_residual-in_err-numbers-in_default.ensures.1
+    (primitive_fault told.taken.over here c.in_err-numbers-in_default.ensures)
 
 pub term-returns-in-40 : goal.term-returns-in-40
 term-returns-in-40 t c =
@@ -74,8 +74,8 @@ term-returns-in_ok-rest-in-114 t c =
     let told = c.in_ok-mark.ensures in
     let byte = mark_byte told c.lexeme-mark.ensures in
     let offset = mark_offset told c.lexeme-mark.ensures in
-    let number = c.in_ok-rest.ensures in
-    let d = c.in_ok-rest.rest.value in
+    let number = c.in_ok-rest-in-114.ensures in
+    let d = c.in_ok-rest-in-114.rest.value in
     record {
       term = rest d;
       grammatical = number.small;
@@ -89,8 +89,8 @@ term-returns-in_ok-numbers-in_default t c =
     let byte = mark_byte told c.lexeme-mark.ensures in
     let offset = mark_offset told c.lexeme-mark.ensures in
     let here = first_third told.one (λ e. omega (arith, byte, e)) (λ e. omega (arith, byte, e)) in
-    let numbers = c.in_ok-numbers.ensures in
-    let p = c.in_ok-numbers.numbers in
+    let numbers = c.in_ok-numbers-in_default.ensures in
+    let p = c.in_ok-numbers-in_default.numbers in
     record {
       term = primitive p;
       grammatical = numbers.words;

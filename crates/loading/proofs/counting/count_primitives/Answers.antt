@@ -26,18 +26,18 @@ loop-at-preserved c =
     elim c.if-is_primitive.branch [
       | then-is_primitive+else-count-eq-PRIMITIVES w ↦
           let e : holds_primitive node ≡ true = cc in
-          let fewer : 170 - count - 1 ≡ 170 - c.if-is_primitive.count = omega (arith, w.count_is) in (
+          let fewer : 170 - count - 1 ≡ 170 - c.if-is_primitive.count = omega (arith, w.count-is) in (
             omega arith,
-            omega (arith, w.count_is),
-            omega (arith, w.count_is, counted_primitive is at h e),
+            omega (arith, w.count-is),
+            omega (arith, w.count-is, counted_primitive is at h e),
             (λ i. excess (sym next i) (sym fewer i) (drop (at + 1) is)) ∙ sym (one_primitive is at h _ _ (omega arith) e (omega arith)) ∙ c.loop-at.invariant.3,
           )
       | else-is_primitive w ↦
           let e : holds_primitive node ≡ false = cc in
-          let same : 170 - count ≡ 170 - c.if-is_primitive.count = omega (arith, w.count_is) in (
+          let same : 170 - count ≡ 170 - c.if-is_primitive.count = omega (arith, w.count-is) in (
             omega arith,
-            omega (arith, w.count_is),
-            omega (arith, w.count_is, counted_other is at h e),
+            omega (arith, w.count-is),
+            omega (arith, w.count-is, counted_other is at h e),
             (λ i. excess (sym next i) (sym same i) (drop (at + 1) is)) ∙ sym (one_other is at h _ _ (omega arith) e) ∙ c.loop-at.invariant.3,
           )
     ]

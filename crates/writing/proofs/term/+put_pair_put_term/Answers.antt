@@ -12,8 +12,8 @@ pub put_pair-put_byte-start-requires : goal.put_pair-put_byte-start-requires
 put_pair-put_byte-start-requires g t c =
     omega (arith, paired_size (view g.K.Kind.numbers_of c.args.row.now) c.args.at c.args.sign c.requires.pair)
 
-pub put_pair_put_term-right-requires : goal.put_pair_put_term-right-requires
-put_pair_put_term-right-requires g t c κs within =
+pub put_pair-put_term-right-requires : goal.put_pair-put_term-right-requires
+put_pair-put_term-right-requires g t c κs within =
     let f = g.K.Kind.numbers_of in
     let row = c.args.row.now in
     let size = paired_size (view f row) c.args.at c.args.sign c.requires.pair in
@@ -24,8 +24,8 @@ pub put_pair-put_byte-next-requires : goal.put_pair-put_byte-next-requires
 put_pair-put_byte-next-requires g t c =
     omega (arith, paired_size (view g.K.Kind.numbers_of c.args.row.now) c.args.at c.args.sign c.requires.pair)
 
-pub put_pair_put_term-behind-requires : goal.put_pair_put_term-behind-requires
-put_pair_put_term-behind-requires g t c κs within =
+pub put_pair-put_term-behind-requires : goal.put_pair-put_term-behind-requires
+put_pair-put_term-behind-requires g t c κs within =
     let f = g.K.Kind.numbers_of in
     let row = c.args.row.now in
     let size = paired_size (view f row) c.args.at c.args.sign c.requires.pair in

@@ -1,5 +1,5 @@
 use Rattle.building.proofs.Scratch.{fewer_bytes}
 use Rattle.normal_file.proofs.write.write_normal_from.Goals as goal
 
-pub whole-as-slice·write_normal : goal.whole-as-slice·write_normal
-whole-as-slice·write_normal g c = fewer_bytes _ _ _ c.requires.wide c.well-formed.0.1
+pub whole_as_slice-write_normal : goal.whole_as_slice-write_normal
+whole_as_slice-write_normal g c = fewer_bytes _ _ _ c.requires.wide c.well_formed.0.1

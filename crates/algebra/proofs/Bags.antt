@@ -11,14 +11,14 @@ use mathlib.Core.List.Permᴰ.{swap as permuted-swap}
 use mathlib.Core.List.Permᴰ.{symm as permuted-sym}
 use mathlib.Core.List.Permᴰ.{trans as permuted-trans}
 use mathlib.Core.List.{Permᴰ as Permutation}
-use Rattle.std.specs.List.{AllByRecursion as All}
+use Rattle.std.specs.List.{AllByRecursion}
 use Rattle.algebra.specs.Bag.{count, flat_map}
 
 pub map_append : {X Y : Type 0} (f : X → Y) (xs ys : List X) → map f (xs ++ ys) ≡ map f xs ++ map f ys
 map_append f [] ys = refl
 map_append f (x ∷ xs) ys = ap (λ zs. f x ∷ zs) (map_append f xs ys)
 
-pub map_same : {X Y : Type 0} (f g : X → Y) (xs : List X) → All (λ x. f x ≡ g x) xs → map f xs ≡ map g xs
+pub map_same : {X Y : Type 0} (f g : X → Y) (xs : List X) → AllByRecursion (λ x. f x ≡ g x) xs → map f xs ≡ map g xs
 map_same f g [] h = refl
 map_same f g (x ∷ xs) h = ap₂ (λ y ys. y ∷ ys) h.0 (map_same f g xs h.1)
 
@@ -38,16 +38,16 @@ pub flat_map_map : {X Y Z : Type 0} (f : Y → List Z) (g : X → Y) (xs : List 
 flat_map_map f g [] = refl
 flat_map_map f g (x ∷ xs) = ap (λ zs. f (g x) ++ zs) (flat_map_map f g xs)
 
-pub flat_map_same : {X Y : Type 0} (f g : X → List Y) (xs : List X) → All (λ x. f x ≡ g x) xs → flat_map f xs ≡ flat_map g xs
+pub flat_map_same : {X Y : Type 0} (f g : X → List Y) (xs : List X) → AllByRecursion (λ x. f x ≡ g x) xs → flat_map f xs ≡ flat_map g xs
 flat_map_same f g [] h = refl
 flat_map_same f g (x ∷ xs) h = ap₂ (λ ys zs. ys ++ zs) h.0 (flat_map_same f g xs h.1)
 
 -- one thing for each, or none for each
-pub flat_map_one : {X Y : Type 0} (f : X → List Y) (g : X → Y) (xs : List X) → All (λ x. f x ≡ g x ∷ []) xs → flat_map f xs ≡ map g xs
+pub flat_map_one : {X Y : Type 0} (f : X → List Y) (g : X → Y) (xs : List X) → AllByRecursion (λ x. f x ≡ g x ∷ []) xs → flat_map f xs ≡ map g xs
 flat_map_one f g [] h = refl
 flat_map_one f g (x ∷ xs) h = ap₂ (λ ys zs. ys ++ zs) h.0 (flat_map_one f g xs h.1)
 
-pub flat_map_none : {X Y : Type 0} (f : X → List Y) (xs : List X) → All (λ x. f x ≡ []) xs → flat_map f xs ≡ []
+pub flat_map_none : {X Y : Type 0} (f : X → List Y) (xs : List X) → AllByRecursion (λ x. f x ≡ []) xs → flat_map f xs ≡ []
 flat_map_none f [] h = refl
 flat_map_none f (x ∷ xs) h = ap₂ (λ ys zs. ys ++ zs) h.0 (flat_map_none f xs h.1)
 

@@ -7,7 +7,7 @@ use Rattle.algebra.specs.Normal.{line, lines, same_line}
 use Rattle.algebra.specs.Theorems.{AfterByPlaced, AfterOtherLength}
 use Rattle.algebra.proofs.Bags.{map_append}
 use Rattle.algebra.proofs.Complete.{placed_equality}
-use Rattle.std.specs.List.{AllByRecursion as All}
+use Rattle.std.specs.List.{AllByRecursion}
 use Rattle.std.proofs.lemmas.Bool.{eq-eqb, ne_eqb, le-ltb}
 use Rattle.algebra.proofs.Lines.{Ends, ends_placed}
 
@@ -59,11 +59,11 @@ after_by_placed K s model e =
 
 -- where nothing of one list occurs in the other
 module _ {X : Type 0} (same : X → X → Bool) where
-  absent_none : (other before xs : List X) → All (λ x. count same x other ≡ 0) xs → partnered same other before xs ≡ []
+  absent_none : (other before xs : List X) → AllByRecursion (λ x. count same x other ≡ 0) xs → partnered same other before xs ≡ []
   absent_none other before [] h = refl
   absent_none other before (x ∷ xs) h = rw (le-ltb (count same x before) (count same x other) (omega (arith, h.0))) (absent_none other (x ∷ before) xs h.1)
 
-  pub absent_all : (other before xs : List X) → All (λ x. count same x other ≡ 0) xs → unpartnered same other before xs ≡ xs
+  pub absent_all : (other before xs : List X) → AllByRecursion (λ x. count same x other ≡ 0) xs → unpartnered same other before xs ≡ xs
   absent_all other before [] h = refl
   absent_all other before (x ∷ xs) h = rw (le-ltb (count same x before) (count same x other) (omega (arith, h.0))) (ap (λ ys. x ∷ ys) (absent_all other (x ∷ before) xs h.1))
 
@@ -79,11 +79,11 @@ module _ (K : KindModel) (m n : ℕ) (apart : m ≡ n → ⊥) where
           let l : K.length_of x.what ≡ K.length_of y.what = ap (λ z. K.length_of z.what) same in
           ne_eqb _ _ (λ d. apart (omega arith))
 
-  line_absent : (x : Placed) (ys : List Placed) → Ends K m x → All (Ends K n) ys → count same_line (line K m x) (map (line K n) ys) ≡ 0
+  line_absent : (x : Placed) (ys : List Placed) → Ends K m x → AllByRecursion (Ends K n) ys → count same_line (line K m x) (map (line K n) ys) ≡ 0
   line_absent x [] p h = refl
   line_absent x (y ∷ ys) p h = rw (line_apart x y p h.0) (line_absent x ys p h.1)
 
-  lines_absent : (xs ys : List Placed) → All (Ends K m) xs → All (Ends K n) ys → All (λ l. count same_line l (map (line K n) ys) ≡ 0) (map (line K m) xs)
+  lines_absent : (xs ys : List Placed) → AllByRecursion (Ends K m) xs → AllByRecursion (Ends K n) ys → AllByRecursion (λ l. count same_line l (map (line K n) ys) ≡ 0) (map (line K m) xs)
   lines_absent [] ys h k = tt
   lines_absent (x ∷ xs) ys h k = (line_absent x ys h.0 k, lines_absent xs ys h.1 k)
 

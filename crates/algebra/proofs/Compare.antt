@@ -1,7 +1,7 @@
 -- Comparing two scores answers what it should, and no other answer would do.
 use Rattle.std.proofs.Common.{◌≡◌, ℕ, Bool, true, false, cond, not, eqb, List, [], ◌∷◌, ◌++◌, Some, None, Option, Ordering, Less, Equal, Greater, sym, refl, ap, ◌∙◌, subst, ap₂, inl, inr, arith}
 use Rattle.std.specs.Ordering.{is_lt}
-use Rattle.std.specs.List.{AllByRecursion as All}
+use Rattle.std.specs.List.{AllByRecursion}
 use Rattle.std.proofs.ByRecursion.{All-append, All-weaker}
 use Rattle.std.proofs.lemmas.Bool.{cond_both, cases_eq, eqb-true, eqb-false, ne_eqb, not-true}
 use Rattle.algebra.specs.Bag.{count}
@@ -40,16 +40,16 @@ module _ (K : KindModel) (order : OrderLaws K) where
     NotBefore x z = f z ≡ true → compare_placed K z x ≡ Less → ⊥
 
     abbrev pub Least : List Placed → Option Placed → Type 0
-    Least zs None = All (λ z. f z ≡ false) zs
-    Least zs (Some x) = (f x ≡ true) × LegalPlaced x × All (NotBefore x) zs
+    Least zs None = AllByRecursion (λ z. f z ≡ false) zs
+    Least zs (Some x) = (f x ≡ true) × LegalPlaced x × AllByRecursion (NotBefore x) zs
 
     fails : (z : Placed) → f z ≡ false → f z ≡ true → ⊥
     fails z e d = let n : ◌≡◌ {A = ℕ} 0 1 = cc in omega arith
 
-    pub lesser_is : (z y : Placed) (zs : List Placed) → LegalPlaced z → f z ≡ true → All LegalPlaced zs → Least zs (Some y) → (o : Ordering) → compare_placed K y z ≡ o → Least (z ∷ zs) (Some (cond (is_lt o) y z))
+    pub lesser_is : (z y : Placed) (zs : List Placed) → LegalPlaced z → f z ≡ true → AllByRecursion LegalPlaced zs → Least zs (Some y) → (o : Ordering) → compare_placed K y z ≡ o → Least (z ∷ zs) (Some (cond (is_lt o) y z))
     lesser_is z y zs l e legal h Less c = (h.0, h.1, ((λ _ d. apart (let g = flipped y z h.1 l ∙ ap opposite c in cc)), h.2))
     lesser_is z y zs l e legal h Equal c =
-        (e, l, ((λ _ d. apart (sym (self z l) ∙ d)), subst (λ x. All (NotBefore x) zs) (equal y z h.1 l c) h.2))
+        (e, l, ((λ _ d. apart (sym (self z l) ∙ d)), subst (λ x. AllByRecursion (NotBefore x) zs) (equal y z h.1 l c) h.2))
     lesser_is z y zs l e legal h Greater c = (
       e,
       l,
@@ -59,7 +59,7 @@ module _ (K : KindModel) (order : OrderLaws K) where
       ),
     )
 
-    pub least_is : (zs : List Placed) → All LegalPlaced zs → Least zs (least K f zs)
+    pub least_is : (zs : List Placed) → AllByRecursion LegalPlaced zs → Least zs (least K f zs)
     least_is [] legal = tt
     least_is (z ∷ zs) legal = go (f z) refl (least K f zs) (least_is zs legal.1)
       where
@@ -76,7 +76,7 @@ module _ (K : KindModel) (order : OrderLaws K) where
     abbrev in_t : Placed → ℕ
     in_t x = count same_placed x (placed K t)
 
-    all_legal : All LegalPlaced (placed K s ++ placed K t)
+    all_legal : AllByRecursion LegalPlaced (placed K s ++ placed K t)
     all_legal = All-append LegalPlaced (placed K s) (placed K t) (legal_placed K s l) (legal_placed K t m)
 
     legal : (x : Placed) → (in_s x ≡ in_t x → ⊥) → LegalPlaced x

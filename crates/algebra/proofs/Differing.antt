@@ -1,6 +1,6 @@
 -- Which placed primitives of two lists differ in their counts, and that comparing says same exactly where none does.
 use Rattle.std.proofs.Common.{◌≡◌, ℕ, ◌<◌, Bool, true, false, cond, not, eqb, List, [], ◌∷◌, ◌++◌, Some, None, Option, sym, refl, ap, subst, inl, inr, arith}
-use Rattle.std.specs.List.{AllByRecursion as All}
+use Rattle.std.specs.List.{AllByRecursion}
 use Rattle.std.proofs.lemmas.Bool.{cond_both, cases_eq, eqb-true, eq-eqb, not-false}
 use Rattle.algebra.specs.Bag.{count}
 use Rattle.algebra.specs.Kind.{KindModel}
@@ -13,7 +13,7 @@ use Rattle.algebra.proofs.Partners.{count_append}
 use Rattle.algebra.proofs.Complete.{placed_equality, sound_and_complete}
 
 -- what holds of all holds of each that occurs
-pub all_count : (P : Placed → Type 0) (xs : List Placed) → All P xs → (y : Placed) → 0 < count same_placed y xs → P y
+pub all_count : (P : Placed → Type 0) (xs : List Placed) → AllByRecursion P xs → (y : Placed) → 0 < count same_placed y xs → P y
 all_count P [] h y c = absurd (omega arith)
 all_count P (x ∷ xs) h y c = go (same_placed y x) refl (all_count P xs h.1 y)
   where
@@ -27,7 +27,7 @@ module _ (xs ys : List Placed) where
   occurs x ne = omega (arith, count_append placed_equality x xs ys)
 
   -- where no count differs the bags are equal
-  pub none_differs : All (λ x. counts_differ xs ys x ≡ false) (xs ++ ys) → SameBag xs ys
+  pub none_differs : AllByRecursion (λ x. counts_differ xs ys x ≡ false) (xs ++ ys) → SameBag xs ys
   none_differs h x = elim (cases_eq (count same_placed x xs) (count same_placed x ys)) [
     | inl e ↦ e
     | inr ne ↦ eqb-true (count same_placed x xs) (count same_placed x ys) (not-false _ (all_count (λ z. counts_differ xs ys z ≡ false) (xs ++ ys) h x (occurs x ne)))
@@ -35,11 +35,11 @@ module _ (xs ys : List Placed) where
 
 -- nothing is least exactly where nothing passes the test
 module _ (K : KindModel) (f : Placed → Bool) where
-  none_least : (zs : List Placed) → least K f zs ≡ None → All (λ z. f z ≡ false) zs
+  none_least : (zs : List Placed) → least K f zs ≡ None → AllByRecursion (λ z. f z ≡ false) zs
   none_least [] e = tt
   none_least (z ∷ zs) e = go (f z) refl e (none_least zs)
     where
-      go : (b : Bool) → f z ≡ b → cond b (Some (lesser K z (least K f zs))) (least K f zs) ≡ None → (least K f zs ≡ None → All (λ z. f z ≡ false) zs) → All (λ z. f z ≡ false) (z ∷ zs)
+      go : (b : Bool) → f z ≡ b → cond b (Some (lesser K z (least K f zs))) (least K f zs) ≡ None → (least K f zs ≡ None → AllByRecursion (λ z. f z ≡ false) zs) → AllByRecursion (λ z. f z ≡ false) (z ∷ zs)
       go true d e known = let n : ◌≡◌ {A = ℕ} 0 1 = cc in absurd (omega arith)
       go false d e known = (d, known e)
 

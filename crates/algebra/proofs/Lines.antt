@@ -5,7 +5,7 @@ use mathlib.Core.List.Permᴰ.{nil as permuted-nil}
 use mathlib.Core.List.Permᴰ.{swap as permuted-swap}
 use mathlib.Core.List.Permᴰ.{trans as permuted-trans}
 use mathlib.Core.List.{Permᴰ as Permutation}
-use Rattle.std.specs.List.{AllByRecursion as All}
+use Rattle.std.specs.List.{AllByRecursion}
 use Rattle.std.proofs.ByRecursion.{All-append, All-weaker, All-map}
 use Rattle.algebra.specs.Kind.{KindModel}
 use Rattle.algebra.specs.Score.{Score, Score.rest, Score.primitive, Score.sequence, Score.parallel, score_length, Placed, placed, later}
@@ -31,14 +31,14 @@ spread n (l ∷ ls) = parallel (line_score l) (spread n ls)
 
 -- Each line has length n.
 abbrev Full : KindModel → ℕ → List Line → Type 0
-Full K n ls = All (λ l. score_length K (line_score l) ≡ n) ls
+Full K n ls = AllByRecursion (λ l. score_length K (line_score l) ≡ n) ls
 
 -- A placed primitive ends by n.
 abbrev pub Ends : KindModel → ℕ → Placed → Type 0
 Ends K n x = x.onset + K.length_of x.what ≤ n
 
 module _ (K : KindModel) (n : ℕ) where
-  full_lines : (xs : List Placed) → All (Ends K n) xs → Full K n (map (line K n) xs)
+  full_lines : (xs : List Placed) → AllByRecursion (Ends K n) xs → Full K n (map (line K n) xs)
   full_lines xs w = All-map _ (line K n) xs (All-weaker (Ends K n) (λ x. score_length K (line_score (line K n x)) ≡ n) (λ x h. omega arith) xs w)
 
   full_permuted : {ls ms : List Line} → Permutation ls ms → Full K n ls → Full K n ms
@@ -56,7 +56,7 @@ module _ (K : KindModel) (n : ℕ) where
   spread_append (l ∷ ls) ms f = by parallel_associative ⟫ in_parallel_lem done (spread_append ls ms f)
 
   -- two lists of placed primitives in one score
-  spread_both : (xs ys : List Placed) → All (Ends K n) ys → Chain K (parallel (spread n (map (line K n) xs)) (spread n (map (line K n) ys))) (spread n (map (line K n) (xs ++ ys)))
+  spread_both : (xs ys : List Placed) → AllByRecursion (Ends K n) ys → Chain K (parallel (spread n (map (line K n) xs)) (spread n (map (line K n) ys))) (spread n (map (line K n) (xs ++ ys)))
   spread_both xs ys w = rw (map_append (line K n) xs ys) (spread_append (map (line K n) xs) (map (line K n) ys) (full_lines ys w))
 
   spread_permuted : {ls ms : List Line} → Permutation ls ms → Chain K (spread n ls) (spread n ms)
@@ -81,7 +81,7 @@ module _ (K : KindModel) (n : ℕ) where
       let same : n - x.onset - K.length_of x.what ≡ (k + n) - (k + x.onset) - K.length_of x.what = omega arith in
       inverse (by sequence_associative) ⟫ in_sequence_lem (by (rest_split refl)) (rw same done)
 
-  spread_extend : {m : ℕ} (k : ℕ) (xs : List Placed) → All (Ends K n) xs → m ≡ n + k → Chain K (sequence (spread n (map (line K n) xs)) (rest k)) (spread m (map (line K m) xs))
+  spread_extend : {m : ℕ} (k : ℕ) (xs : List Placed) → AllByRecursion (Ends K n) xs → m ≡ n + k → Chain K (sequence (spread n (map (line K n) xs)) (rest k)) (spread m (map (line K m) xs))
   spread_extend k [] w e = by (rest_split e)
   spread_extend k (x ∷ xs) w e =
       rest_after (omega (arith, w.0, length_spread (map (line K n) xs) (full_lines xs w.1)))
@@ -92,13 +92,13 @@ module _ (K : KindModel) (n : ℕ) where
   spread_delay k (x ∷ xs) = rest_before ⟫ in_parallel_lem (line_delay k x) (spread_delay k xs)
 
 module _ (K : KindModel) where
-  ends_longer : {m : ℕ} (n : ℕ) → m ≤ n → (xs : List Placed) → All (Ends K m) xs → All (Ends K n) xs
+  ends_longer : {m : ℕ} (n : ℕ) → m ≤ n → (xs : List Placed) → AllByRecursion (Ends K m) xs → AllByRecursion (Ends K n) xs
   ends_longer {m} n h xs w = All-weaker (Ends K m) (Ends K n) (λ x e. omega arith) xs w
 
-  ends_later : (n k : ℕ) (xs : List Placed) → All (Ends K n) xs → All (Ends K (k + n)) (map (later k) xs)
+  ends_later : (n k : ℕ) (xs : List Placed) → AllByRecursion (Ends K n) xs → AllByRecursion (Ends K (k + n)) (map (later k) xs)
   ends_later n k xs w = All-map (Ends K (k + n)) (later k) xs (All-weaker (Ends K n) (λ x. Ends K (k + n) (later k x)) (λ x e. omega arith) xs w)
 
-  pub ends_placed : (s : Score) → All (Ends K (score_length K s)) (placed K s)
+  pub ends_placed : (s : Score) → AllByRecursion (Ends K (score_length K s)) (placed K s)
   ends_placed (rest d) = tt
   ends_placed (primitive p) = (omega arith, tt)
   ends_placed (sequence a b) =

@@ -2,7 +2,7 @@
 use Rattle.std.proofs.Common.{◌≡◌, ℕ, ◌+◌, ◌-◌, max, ltb, List, ◌++◌, map, sym, refl, ap, ◌∙◌, subst, arith}
 use mathlib.Core.List.Permᴰ.{trans as permuted-trans}
 use mathlib.Core.List.{Permᴰ as Permutation}
-use Rattle.std.specs.List.{AllByRecursion as All}
+use Rattle.std.specs.List.{AllByRecursion}
 use Rattle.std.proofs.ByRecursion.{All-weaker}
 use Rattle.std.proofs.lemmas.Bool.{cond_both, ltb-true, ltb-false}
 use Rattle.algebra.specs.Kind.{KindModel, ReverseLaws}
@@ -19,7 +19,7 @@ module _ (K : KindModel) (reverses : ReverseLaws K) where
     pub length : score_length K u ≡ n
     pub bag : Permutation (placed K u) (reversed_bag K n xs)
 
-  reversed_longer : (n d : ℕ) (xs : List Placed) → All (Ends K n) xs → map (later d) (reversed_bag K n xs) ≡ reversed_bag K (d + n) xs
+  reversed_longer : (n d : ℕ) (xs : List Placed) → AllByRecursion (Ends K n) xs → map (later d) (reversed_bag K n xs) ≡ reversed_bag K (d + n) xs
   reversed_longer n d xs w =
       map_map (later d) (reversed_one K n) xs
       ∙ map_same _ (reversed_one K (d + n)) xs
@@ -33,7 +33,7 @@ module _ (K : KindModel) (reverses : ReverseLaws K) where
       (always (λ x. reversed_one K (k + n) (later k x) ≡ reversed_one K n x)
       (λ x. ap (λ (o : ℕ). let y : Placed = record { onset = o; what = K.reverse_of x.what } in y) (omega arith)) xs)
 
-  preceded_made : (n l : ℕ) (xs : List Placed) (u : Score) → All (Ends K l) xs → Reversed l xs u → Reversed (max l n) xs (preceded n l u)
+  preceded_made : (n l : ℕ) (xs : List Placed) (u : Score) → AllByRecursion (Ends K l) xs → Reversed l xs u → Reversed (max l n) xs (preceded n l u)
   preceded_made n l xs u w r =
       cond_both (ltb l n) (sequence (rest (n - l)) u) u (Reversed (max l n) xs)
       (λ e. let shorter = ltb-true l n e in

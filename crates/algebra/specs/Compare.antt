@@ -6,7 +6,7 @@ use Rattle.std.specs.Ordering.{is_lt}
 use Rattle.algebra.specs.Bag.{count}
 use Rattle.algebra.specs.Kind.{KindModel, smaller_first}
 use Rattle.algebra.specs.Score.{Score, score_length, Placed, placed, same_placed}
-use Rattle.algebra.specs.Meaning.{SameBag}
+use Rattle.algebra.specs.Meaning.{SameBag, SameMeaning}
 
 -- The answers: one meaning, two lengths, or a placed primitive with how often it occurs in each score.
 pub data Answer : Type 0 where
@@ -27,9 +27,13 @@ SaysOf K m xs n ys (differs x j k) =
     (m ≡ n) × (count same_placed x xs ≡ j) × (count same_placed x ys ≡ k) × (j ≢ k) ×
     ((y : Placed) → compare_placed K y x ≡ Less → count same_placed y xs ≡ count same_placed y ys)
 
--- What an answer says of two scores.
+-- What an answer says: one meaning; both lengths, which differ; or the least placed primitive whose counts differ, with both counts.
 abbrev pub Says : KindModel → Score → Score → Answer → Type 0
-Says K s t answer = SaysOf K (score_length K s) (placed K s) (score_length K t) (placed K t) answer
+Says K s t same = SameMeaning K s t
+Says K s t (lengths m n) = (score_length K s ≡ m) × (score_length K t ≡ n) × (m ≢ n)
+Says K s t (differs x m n) =
+    (score_length K s ≡ score_length K t) × (count same_placed x (placed K s) ≡ m) × (count same_placed x (placed K t) ≡ n) × (m ≢ n) ×
+    ((y : Placed) → compare_placed K y x ≡ Less → count same_placed y (placed K s) ≡ count same_placed y (placed K t))
 
 -- The lesser of two.
 abbrev pub lesser : KindModel → Placed → Option Placed → Placed

@@ -2,7 +2,7 @@
 use Rattle.std.specs.Prelude.{◌≡◌, ℕ, ◌+◌, ◌-◌, ◌<◌, ◌≤◌, Bool, true, cond, List, length, nat_lt}
 use Rattle.std.specs.declared.cmp.Ordering.TheVariants.{Less, Equal, Greater}
 use Rattle.std.specs.declared.cmp.Ordering.{Ordering}
-use Rattle.std.specs.List.{AllByRecursion as All}
+use Rattle.std.specs.List.{AllByRecursion}
 use Rattle.algebra.specs.declared.numbers.Numbers.{Numbers}
 
 abbrev pub four : ℕ → ℕ → ℕ → ℕ → Numbers
@@ -30,7 +30,7 @@ Letter b = (97 ≤ b) × (b ≤ 122)
 pub record Name (w : List ℕ) : Type 0 where
   pub some : 0 < length w
   pub short : length w ≤ 8
-  pub letters : All Letter w
+  pub letters : AllByRecursion Letter w
 
 -- Four numbers of 32 bits.
 pub record Words (p : Numbers) : Type 0 where

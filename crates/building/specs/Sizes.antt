@@ -24,7 +24,7 @@ size_limits size = few size.nodes size.primitives ∷ short size.length ∷ []
 
 -- A score is within the limits.
 abbrev pub limits : KindModel → Score → List Check
-limits K s = size_limits (size_of K s)
+limits K s = few (nodes s) (primitives s) ∷ short (score_length K s) ∷ []
 
 -- What is answered of a new score: its size, where it is within the limits.
 abbrev pub sized : KindModel → Score → Result Size Refusal

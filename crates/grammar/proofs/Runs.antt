@@ -1,6 +1,6 @@
 -- Runs of one class of bytes. Assumes nothing.
 use Rattle.std.proofs.Common.{◌≡◌, ℕ, ◌^◌, ◌<◌, ◌≤◌, List, [], ◌∷◌, ◌++◌, length, get_or, drop, decimal, sym, refl, ap, ◌∙◌, subst, arith}
-use Rattle.std.specs.List.{AllByRecursion as All}
+use Rattle.std.specs.List.{AllByRecursion}
 use Rattle.std.proofs.lemmas.Fmt.{decimal_by_steps, decimal_injective}
 use Rattle.std.proofs.ByRecursion.{All-append}
 use Rattle.std.proofs.lemmas.List.{append_assoc, append_cancel_left}
@@ -12,7 +12,7 @@ Ends D (b ∷ s) = D b → ⊥
 
 module _ (D : ℕ → Type 0) where
   -- two runs that go no further are the same
-  same_run : (u z v y : List ℕ) → All D u → All D v → Ends D z → Ends D y → u ++ z ≡ v ++ y → u ≡ v
+  same_run : (u z v y : List ℕ) → AllByRecursion D u → AllByRecursion D v → Ends D z → Ends D y → u ++ z ≡ v ++ y → u ≡ v
   same_run [] z [] y a b oz oy e = refl
   same_run [] [] (d ∷ v) y a b oz oy e = absurd (omega (arith, ap length e))
   same_run [] (c ∷ z) (d ∷ v) y a b oz oy e =
@@ -27,13 +27,13 @@ module _ (D : ℕ → Type 0) where
       let two : u ≡ v = same_run u z v y a.1 b.1 oz oy (ap (λ l. drop 1 l) e) in
       λ i. one i ∷ two i
 
-  pub split_run : (u z v y : List ℕ) → All D u → All D v → Ends D z → Ends D y → u ++ z ≡ v ++ y → (u ≡ v) × (z ≡ y)
+  pub split_run : (u z v y : List ℕ) → AllByRecursion D u → AllByRecursion D v → Ends D z → Ends D y → u ++ z ≡ v ++ y → (u ≡ v) × (z ≡ y)
   split_run u z v y a b oz oy e =
       let same = same_run u z v y a b oz oy e in
       (same, append_cancel_left u z y (e ∙ ap (λ l. l ++ y) (sym same)))
 
   -- a run, and then a byte that is not in the class
-  pub split_before : (end : ℕ) → (D end → ⊥) → (u z v y : List ℕ) → All D u → All D v → (u ++ (end ∷ [])) ++ z ≡ (v ++ (end ∷ [])) ++ y → (u ≡ v) × (z ≡ y)
+  pub split_before : (end : ℕ) → (D end → ⊥) → (u z v y : List ℕ) → AllByRecursion D u → AllByRecursion D v → (u ++ (end ∷ [])) ++ z ≡ (v ++ (end ∷ [])) ++ y → (u ≡ v) × (z ≡ y)
   split_before end other u z v y a b e =
       let parts = split_run u (end ∷ z) v (end ∷ y) a b other other (sym (append_assoc u (end ∷ []) z) ∙ e ∙ append_assoc v (end ∷ []) y) in
       (parts.0, ap (drop 1) parts.1)
@@ -41,9 +41,9 @@ module _ (D : ℕ → Type 0) where
 abbrev pub Digit : ℕ → Type 0
 Digit b = (48 ≤ b) × (b ≤ 57)
 
-pub digits_decimal : (n : ℕ) → n < 2 ^ 64 → All Digit (decimal n)
+pub digits_decimal : (n : ℕ) → n < 2 ^ 64 → AllByRecursion Digit (decimal n)
 digits_decimal n h =
-    decimal_by_steps (λ n ds. All Digit ds)
+    decimal_by_steps (λ n ds. AllByRecursion Digit ds)
     (λ n l. ((omega arith, omega arith), tt))
     (λ n ds l a. All-append Digit ds _ a ((omega arith, omega arith), tt))
     n h

@@ -1,6 +1,6 @@
 -- Placed primitives of the parts of a score, and the spans that give their onsets.
 use Rattle.std.proofs.Common.{◌≡◌, ℕ, ◌+◌, ◌<◌, ◌≤◌, List, [], ◌∷◌, ◌++◌, map, length, get_or, take, drop, set, sym, refl, ap, ◌∙◌, subst, arith}
-use Rattle.std.specs.List.{AllByRecursion as All}
+use Rattle.std.specs.List.{AllByRecursion}
 use Rattle.std.proofs.ByRecursion.{All-append, All-map}
 use Rattle.std.proofs.lemmas.List.{length-map, map-append, map-set, take-map, take_at}
 use Rattle.algebra.specs.declared.numbers.Numbers.{Numbers}
@@ -67,7 +67,7 @@ wrote_first xs ys zs end w =
 
 module _ (K : KindModel) where
   abbrev pub LegalPlaced : List Placed → Type 0
-  LegalPlaced xs = All (λ x. LegalNumbers K x.what) xs
+  LegalPlaced xs = AllByRecursion (λ x. LegalNumbers K x.what) xs
 
   -- the primitives of a score of legal primitives are legal where they are placed
   placed_legal : (s : Score) → Legal K s → LegalPlaced (placed K s)

@@ -1,6 +1,6 @@
 -- Placed primitives by their numbers, as the code has them.
 use Rattle.std.specs.Prelude.{List, map}
-use Rattle.std.specs.List.{AllByRecursion as All}
+use Rattle.std.specs.List.{AllByRecursion}
 use Rattle.algebra.specs.Kind.{KindModel, LegalNumbers}
 use Rattle.algebra.specs.Score.{Placed}
 use Rattle.normal.specs.declared.onsets.PlacedNumbers.{PlacedNumbers}
@@ -15,4 +15,4 @@ all_placed xs = map placed_of xs
 
 -- The numbers of each are legal.
 abbrev pub AllLegal : KindModel → List PlacedNumbers → Type 0
-AllLegal K xs = All (λ x. LegalNumbers K x.numbers) xs
+AllLegal K xs = AllByRecursion (λ x. LegalNumbers K x.numbers) xs

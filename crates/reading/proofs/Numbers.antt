@@ -3,7 +3,7 @@ use Rattle.std.proofs.Common.{◌≡◌, ℕ, ◌+◌, ◌-◌, ◌*◌, ◌/◌
 use mathlib.Core.List.{map-append, append_cancel_left}
 use Rattle.std.specs.Char.{digit_value}
 use Rattle.std.specs.Int.Digits.{number_from_digits, number_from_digits_after}
-use Rattle.std.specs.List.{AllByRecursion as All}
+use Rattle.std.specs.List.{AllByRecursion}
 use Rattle.std.proofs.ByRecursion.{All-append, All-get_or}
 use Rattle.std.proofs.lemmas.Fmt.{decimal_by_steps, decimal_is_IsNumeral, decimal_digit, decimal_step, decimal_nonempty, first_decimal}
 use Rattle.std.proofs.lemmas.Int.Digits.{digits_value_is, number_after_append, number_after_ge}
@@ -18,16 +18,16 @@ use Rattle.reading.proofs.Steps.{stopped_here}
 use Rattle.reading.proofs.Runs.{same_run, front_run}
 use Rattle.reading.specs.Passing.{Opens, NoDigit, Sure, Stuck, Passed, Stopped, Faulty}
 
-pub digits_decimal : (n : ℕ) → n < 2 ^ 64 → All Digit (decimal n)
+pub digits_decimal : (n : ℕ) → n < 2 ^ 64 → AllByRecursion Digit (decimal n)
 digits_decimal n h =
-    decimal_by_steps (λ n ds. All Digit ds)
+    decimal_by_steps (λ n ds. AllByRecursion Digit ds)
     (λ n l. ((omega arith, omega arith), tt))
     (λ n ds l a. All-append Digit ds _ a ((omega arith, omega arith), tt))
     n h
 
 module _ (limit : ℕ) (small : limit < 2 ^ 64) where
-  pub numeral_digits : (w : List ℕ) → Numeral limit w → All Digit w
-  numeral_digits w h = subst (All Digit) (sym h.2) (digits_decimal h.0 (omega (arith, h.1)))
+  pub numeral_digits : (w : List ℕ) → Numeral limit w → AllByRecursion Digit w
+  numeral_digits w h = subst (AllByRecursion Digit) (sym h.2) (digits_decimal h.0 (omega (arith, h.1)))
 
   -- a run that no digit follows is the only number that the text begins with
   pub numeral_sure : (w t : List ℕ) → Numeral limit w → Opens NoDigit t → Sure (Numeral limit) NoDigit w t
@@ -50,7 +50,7 @@ pub record Sofar (limit : ℕ) (ds : List ℕ) (i v : ℕ) : Type 0 where
 pub start : (limit : ℕ) (ds : List ℕ) → Sofar limit ds 0 0
 start limit ds = record { none = λ e. refl; some = λ h. absurd (omega arith); below = omega arith }
 
-module _ (limit : ℕ) (small : limit < 2 ^ 32) (ds : List ℕ) (digits : All Digit ds) (i v : ℕ) (in' : i < length ds) (so : Sofar limit ds i v) where
+module _ (limit : ℕ) (small : limit < 2 ^ 32) (ds : List ℕ) (digits : AllByRecursion Digit ds) (i v : ℕ) (in' : i < length ds) (so : Sofar limit ds i v) where
   digit_here : Digit (get_or ds i 0)
   digit_here = All-get_or Digit ds i 0 in' digits
 

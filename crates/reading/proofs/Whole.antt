@@ -83,8 +83,8 @@ numbers_of ticks count a b = record {
   split = refl;
 }
 
-lines_of_lem : (kind : List ℕ) (ticks count : ℕ) → GrammaticalHead kind ticks count → Lines (line (codes "kind=") kind ++ (line (codes "length=") (decimal ticks) ++ line (codes "prims=") (decimal count)))
-lines_of_lem kind ticks count l = record {
+lines_of : (kind : List ℕ) (ticks count : ℕ) → GrammaticalHead kind ticks count → Lines (line (codes "kind=") kind ++ (line (codes "length=") (decimal ticks) ++ line (codes "prims=") (decimal count)))
+lines_of kind ticks count l = record {
   front = line (codes "kind=") kind;
   back = line (codes "length=") (decimal ticks) ++ line (codes "prims=") (decimal count);
   first = line_of (codes "kind=") kind Name l.name;
@@ -97,7 +97,7 @@ head_of kind ticks count l = record {
   front = signature;
   back = line (codes "kind=") kind ++ (line (codes "length=") (decimal ticks) ++ line (codes "prims=") (decimal count));
   first = refl;
-  second = lines_of_lem kind ticks count l;
+  second = lines_of kind ticks count l;
   split = refl;
 }
 
@@ -127,7 +127,7 @@ some_head : GrammaticalHead (97 ∷ []) 0 0
 some_head = record { name = some_name; short = omega arith; few = omega arith }
 
 pub some_lines : Lines (line (codes "kind=") (97 ∷ []) ++ (line (codes "length=") (decimal 0) ++ line (codes "prims=") (decimal 0)))
-some_lines = lines_of_lem (97 ∷ []) 0 0 some_head
+some_lines = lines_of (97 ∷ []) 0 0 some_head
 
 pub some_numbers : Numbers (line (codes "length=") (decimal 0) ++ line (codes "prims=") (decimal 0))
 some_numbers = numbers_of 0 0 (omega arith) (omega arith)
@@ -209,17 +209,17 @@ module _ (text : List ℕ) (h : lines.Lines) (taken : LinesTaken text h) where
     kind = h.kind.bytes.now;
     ticks = h.ticks.value;
     count = h.count.value;
-    rest = taken.headed.rest;
-    within = taken.headed.within;
-    split = taken.headed.split;
+    rest = drop h.end text;
+    within = taken.within;
+    split = taken.passed.split;
   }
 
   pub kind_refused : (kind : List ℕ) → (h.kind.bytes.now ≡ kind → ⊥) → Refused kind text (OtherKind h.kind.offset)
-  kind_refused kind other = subst (λ o. Refused kind text (OtherKind o)) (sym taken.kind_at) (other_kind taken.headed.small headed other)
+  kind_refused kind other = subst (λ o. Refused kind text (OtherKind o)) (sym taken.kind_at) (other_kind taken.small headed other)
 
   pub tail_refused : (kind : List ℕ) → h.kind.bytes.now ≡ kind → (e : Refusal) → Faulty Tail Nothing text h.end section.Body e → Refused kind text e
   tail_refused kind same e f =
-      subst (Refused kind text) (sym f.is) (misfit f.offset taken.headed.small headed same (file_misfit text f.offset (then_stopped (follows_any _) taken.passed f.stopped)))
+      subst (Refused kind text) (sym f.is) (misfit f.offset taken.small headed same (file_misfit text f.offset (then_stopped (follows_any _) taken.passed f.stopped)))
 
   pub read_as : (kind : List ℕ) → h.kind.bytes.now ≡ kind → (d d' : Draft) → drafted d ≡ [] → BodyTaken text h.end d d' → ReadAs kind text (record { ticks = h.ticks; count = h.count }) (drafted d')
   read_as kind same d d' empty body =
@@ -228,11 +228,11 @@ module _ (text : List ℕ) (h : lines.Lines) (taken : LinesTaken text h) where
       let at : h.end + 5 ≡ body_offset f = ap (λ n. n + 5) taken.passed.moved ∙ omega (arith, length-append head (codes "body=")) in
       record {
         file = f;
-        small = taken.headed.small;
+        small = taken.small;
         kind_is = same;
         printed = taken.passed.split ∙ ap (λ l. head ++ l) body.split;
         describes = record {
-          within = record { head = taken.headed.within; body = body.grammatical };
+          within = record { head = taken.within; body = body.grammatical };
           ticks = refl;
           ticks_at = taken.ticks_at;
           count = refl;

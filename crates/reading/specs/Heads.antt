@@ -2,11 +2,10 @@
 use Rattle.std.specs.Prelude.{◌≡◌, ℕ, ◌+◌, ◌≤◌, List, ◌++◌, length, codes, decimal}
 use Rattle.algebra.specs.Kind.{Name}
 use Rattle.grammar.specs.declared.head.Figure.{Figure}
-use Rattle.grammar.specs.Files.{signature, line, print_head, kind_offset}
+use Rattle.grammar.specs.Files.{signature, line, print_head, GrammaticalHead, kind_offset}
 use Rattle.reading.specs.declared.reader.Reader.{Reader}
 use Rattle.reading.specs.declared.reader.head.Lines.{Lines}
 use Rattle.reading.specs.declared.word.Lexeme.{Lexeme}
-use Rattle.reading.specs.Readings.{HeadedAs}
 use Rattle.reading.specs.Languages.{KindLine, NumberLine, Head}
 use Rattle.reading.specs.Passing.{Any, Passed, Over}
 
@@ -22,9 +21,10 @@ pub record NumberLineTaken (key : List ℕ) (limit : ℕ) (before after : Reader
   pub small : f.value ≤ limit
   pub over : Over (NumberLine key limit) Any (line key (decimal f.value)) before after
 
--- a text begins with the lines before the body, which say this
+-- a text of at most 16,384 bytes begins with the lines before the body, which say this
 pub record LinesTaken (text : List ℕ) (h : Lines) : Type 0 where
-  pub headed : HeadedAs text h.kind.bytes.now h.ticks.value h.count.value
+  pub small : length text ≤ 16384
+  pub within : GrammaticalHead h.kind.bytes.now h.ticks.value h.count.value
   pub kind_at : h.kind.offset ≡ kind_offset
   pub ticks_at : h.ticks.offset ≡ length (signature ++ (line (codes "kind=") h.kind.bytes.now ++ codes "length="))
   pub count_at : h.count.offset ≡ length (signature ++ (line (codes "kind=") h.kind.bytes.now ++ (line (codes "length=") (decimal h.ticks.value) ++ codes "prims=")))

@@ -1,6 +1,6 @@
 -- The parts of a score file that have readers of their own, each as the texts that belong to it.
 use Rattle.std.specs.Prelude.{◌≡◌, ℕ, ◌≤◌, List, [], ◌∷◌, ◌++◌, codes, decimal}
-use Rattle.std.specs.List.{ContainsAt as Has, AllByRecursion as All}
+use Rattle.std.specs.List.{ContainsAt as Has, AllByRecursion}
 use Rattle.algebra.specs.Kind.{Name}
 use Rattle.algebra.specs.Score.{Score}
 use Rattle.grammar.specs.Files.{print, Grammatical, signature, ending}
@@ -26,7 +26,7 @@ Digit b = (48 ≤ b) × (b ≤ 57)
 
 -- digits, or none
 abbrev pub Digits : List ℕ → Type 0
-Digits w = All Digit w
+Digits w = AllByRecursion Digit w
 
 -- a number up to a limit, in base ten with no leading zero
 abbrev pub Numeral : ℕ → List ℕ → Type 0

@@ -1,10 +1,11 @@
--- What the head of a text says.
+-- What a headed reading holds.
 use Rattle.std.specs.Prelude.{◌≡◌, ℕ, ◌≤◌, List, ◌++◌, length}
 use Rattle.grammar.specs.Files.{print_head, GrammaticalHead}
+use Rattle.reading.specs.declared.states.HeadedReading.{HeadedReading}
 
--- a text of at most 16,384 bytes begins with a head that says this
-pub record HeadedAs (text kind : List ℕ) (ticks count : ℕ) : Type 0 where
+-- a text of at most 16,384 bytes begins with the head that the reading tells
+pub record HeadedAs (text : List ℕ) (h : HeadedReading) : Type 0 where
   pub small : length text ≤ 16384
-  pub within : GrammaticalHead kind ticks count
+  pub within : GrammaticalHead h.kind.now h.ticks h.count
   pub rest : List ℕ
-  pub split : text ≡ print_head kind ticks count ++ rest
+  pub split : text ≡ print_head h.kind.now h.ticks h.count ++ rest

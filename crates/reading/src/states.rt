@@ -36,7 +36,7 @@ impl<'a> FreshReading<'a> {
 
     // Reads the head.
     pub fn read_head(self) -> Result<HeadedReading<'a>, Refusal>
-        ensures { MatchResult result (λ h. (h.text ≡ self.entry.text) × HeadedAs self.entry.text.now h.kind.now h.ticks h.count) (λ e. HeadRefused self.entry.text.now e) }
+        ensures { MatchResult result (λ h. (h.text ≡ self.entry.text) × HeadedAs self.entry.text.now h) (λ e. HeadRefused self.entry.text.now e) }
     {
         let lines = Lines::read(self.text)?;
         Ok(HeadedReading {

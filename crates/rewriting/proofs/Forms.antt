@@ -9,27 +9,26 @@ use Rattle.algebra.specs.Layout.{seen, view}
 use Rattle.algebra.specs.Score.{Score, Score.rest}
 use Rattle.algebra.specs.Rewrite.{in_rest, provided, other_side}
 use Rattle.nodes.specs.Pairs.{Pair}
-use Rattle.nodes.specs.declared.joint.Joint.{Joint}
-use Rattle.nodes.specs.declared.joint.Joint.TheVariants.{Sequence, Parallel}
+use Rattle.rewriting.specs.declared.join.Join.{Join}
+use Rattle.rewriting.specs.declared.join.Join.TheVariants.{Sequence, Parallel}
 use Rattle.rewriting.specs.declared.plan.Plan.{Plan}
 use Rattle.rewriting.specs.Plans.{plan_score, PlanInside, Planned}
-use Rattle.nodes.specs.Joints.{joined}
-use Rattle.rewriting.specs.Joins.{in_join}
+use Rattle.rewriting.specs.Joins.{join_of, in_join}
 use Rattle.rewriting.specs.Rules.{associative, unit_right}
 use Rattle.rewriting.specs.Tables.{standing}
 use Rattle.rewriting.specs.Matches.{Parted}
 
-in_join_lem : (join : Joint) (a b : Score) (make : Score → Score → Option Score) → in_join join (joined join a b) make ≡ make a b
+in_join_lem : (join : Join) (a b : Score) (make : Score → Score → Option Score) → in_join join (join_of join a b) make ≡ make a b
 in_join_lem Sequence a b make = refl
 in_join_lem Parallel a b make = refl
 
 module _ {P : Type 0} (f : P → Numbers) (row : List (Node P)) where
-  pub parted_pair : (join : Joint) {at left right : ℕ} → Pair (joined join) (view f row) at left right → Parted f row at join left right
+  pub parted_pair : (join : Join) {at left right : ℕ} → Pair (join_of join) (view f row) at left right → Parted f row at join left right
   parted_pair join p =
       let n = length-map row (seen f) in
       record { is = p.is; left_inside = omega (arith, n, p.middle, p.ends, p.right_some); right_inside = omega (arith, n, p.ends, p.right_some) }
 
-  pub parted : {join : Joint} {at left right : ℕ} → Parted f row at join left right → (make : Score → Score → Option Score) → in_join join (standing f row at) make ≡ make (standing f row left) (standing f row right)
+  pub parted : {join : Join} {at left right : ℕ} → Parted f row at join left right → (make : Score → Score → Option Score) → in_join join (standing f row at) make ≡ make (standing f row left) (standing f row right)
   parted {join} {at} {left} {right} p make = ap (λ s. in_join join s make) p.is ∙ in_join_lem join (standing f row left) (standing f row right) make
 
   pub rested : (at : ℕ) {ticks : ℕ} → standing f row at ≡ rest ticks → (make : ℕ → Option Score) → in_rest (standing f row at) make ≡ make ticks
@@ -42,14 +41,14 @@ module _ {P : Type 0} (f : P → Numbers) (row : List (Node P)) where
 
 -- rules that say of both joins the same
 module _ (K : KindModel) where
-  pub associated_forth : (join : Joint) (s : Score) → other_side K (associative join) Forth 0 s ≡ in_join join s (λ l c. in_join join l (λ a b. Some (joined join a (joined join b c))))
+  pub associated_forth : (join : Join) (s : Score) → other_side K (associative join) Forth 0 s ≡ in_join join s (λ l c. in_join join l (λ a b. Some (join_of join a (join_of join b c))))
   associated_forth Sequence s = refl
   associated_forth Parallel s = refl
 
-  pub associated_back : (join : Joint) (s : Score) → other_side K (associative join) Back 0 s ≡ in_join join s (λ a r. in_join join r (λ b c. Some (joined join (joined join a b) c)))
+  pub associated_back : (join : Join) (s : Score) → other_side K (associative join) Back 0 s ≡ in_join join s (λ a r. in_join join r (λ b c. Some (join_of join (join_of join a b) c)))
   associated_back Sequence s = refl
   associated_back Parallel s = refl
 
-  pub unit_right_lem : (join : Joint) (s : Score) → other_side K (unit_right join) Forth 0 s ≡ in_join join s (λ a z. in_rest z (λ n. provided (eqb n 0) a))
+  pub unit_right_lem : (join : Join) (s : Score) → other_side K (unit_right join) Forth 0 s ≡ in_join join s (λ a z. in_rest z (λ n. provided (eqb n 0) a))
   unit_right_lem Sequence s = refl
   unit_right_lem Parallel s = refl

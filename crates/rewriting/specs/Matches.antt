@@ -4,19 +4,18 @@ use Rattle.algebra.specs.declared.numbers.Numbers.{Numbers}
 use Rattle.algebra.specs.declared.node.Node.{Node}
 use Rattle.algebra.specs.Score.{Score, Score.rest}
 use Rattle.algebra.specs.Rewrite.{in_rest}
-use Rattle.nodes.specs.declared.joint.Joint.{Joint}
-use Rattle.nodes.specs.Joints.{joined}
-use Rattle.rewriting.specs.Joins.{in_join}
+use Rattle.rewriting.specs.declared.join.Join.{Join}
+use Rattle.rewriting.specs.Joins.{join_of, in_join}
 use Rattle.rewriting.specs.Tables.{standing}
 
 -- The score that begins at a node is a join of two that begin in the row.
-pub record Parted {P : Type 0} (f : P → Numbers) (row : List (Node P)) (at : ℕ) (join : Joint) (left right : ℕ) : Type 0 where
-  pub is : standing f row at ≡ joined join (standing f row left) (standing f row right)
+pub record Parted {P : Type 0} (f : P → Numbers) (row : List (Node P)) (at : ℕ) (join : Join) (left right : ℕ) : Type 0 where
+  pub is : standing f row at ≡ join_of join (standing f row left) (standing f row right)
   pub left_inside : left < length row
   pub right_inside : right < length row
 
 -- Where the parts begin, if the score that begins at a node is such a join.
-abbrev pub JoinFound : {P : Type 0} → (P → Numbers) → List (Node P) → ℕ → Joint → Option (ℕ × ℕ) → Type 0
+abbrev pub JoinFound : {P : Type 0} → (P → Numbers) → List (Node P) → ℕ → Join → Option (ℕ × ℕ) → Type 0
 JoinFound f row at join None = (make : Score → Score → Option Score) → in_join join (standing f row at) make ≡ None
 JoinFound f row at join (Some parts) = Parted f row at join parts.0 parts.1
 

@@ -4,13 +4,13 @@ use Rattle.algebra.specs.declared.numbers.Numbers.{Numbers}
 use Rattle.algebra.specs.declared.node.Node.{Node}
 use Rattle.algebra.specs.Score.{Score, Score.rest}
 use Rattle.algebra.specs.Layout.{view, score_at}
-use Rattle.nodes.specs.Joints.{joined}
 use Rattle.rewriting.specs.declared.plan.Piece.{Piece}
 use Rattle.rewriting.specs.declared.plan.Piece.TheVariants.{Rest, Part}
 use Rattle.rewriting.specs.declared.plan.Pieces.{Pieces}
 use Rattle.rewriting.specs.declared.plan.Pieces.TheVariants.{One, Two}
 use Rattle.rewriting.specs.declared.plan.Plan.{Plan}
 use Rattle.rewriting.specs.declared.plan.Plan.TheVariants.{Simple, Joined}
+use Rattle.rewriting.specs.Joins.{join_of}
 
 -- The score that a piece stands for.
 abbrev pub piece_score : List (Node Numbers) → Piece → Score
@@ -20,12 +20,12 @@ piece_score xs (Part at) = score_at xs at
 -- The score that one piece or two stand for.
 abbrev pub pieces_score : List (Node Numbers) → Pieces → Score
 pieces_score xs (One a) = piece_score xs a
-pieces_score xs (Two join a b) = joined join (piece_score xs a) (piece_score xs b)
+pieces_score xs (Two join a b) = join_of join (piece_score xs a) (piece_score xs b)
 
 -- The score that a plan stands for.
 abbrev pub plan_score : List (Node Numbers) → Plan → Score
 plan_score xs (Simple a) = pieces_score xs a
-plan_score xs (Joined join a b) = joined join (pieces_score xs a) (pieces_score xs b)
+plan_score xs (Joined join a b) = join_of join (pieces_score xs a) (pieces_score xs b)
 
 -- The parts begin in a row of n nodes.
 abbrev pub PieceInside : ℕ → Piece → Type 0

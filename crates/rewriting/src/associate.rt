@@ -7,11 +7,11 @@ ghost use Rattle.rewriting.specs.Tables.{Table, standing};
 ghost use Rattle.rewriting.specs.Plans.{Planned};
 ghost use Rattle.rewriting.specs.Rules.{associative};
 
+use crate::join::Join;
 use crate::matching::join_at;
 use crate::plan::{Piece, Pieces, Plan};
 use algebra::node::Node;
 use kinds::kind::Kind;
-use nodes::joint::Joint;
 use nodes::span::Span;
 
 // From ((a b) c) to (a (b c)).
@@ -19,7 +19,7 @@ pub fn associate_forth<K: Kind>(
     row: &[Node<K>],
     spans: &[Span],
     at: usize,
-    join: Joint,
+    join: Join,
 ) -> Option<Plan>
     requires table { Table K.Kind.model K.Kind.numbers_of row.now spans.now }
     requires inside { at < length row.now }
@@ -39,7 +39,7 @@ pub fn associate_back<K: Kind>(
     row: &[Node<K>],
     spans: &[Span],
     at: usize,
-    join: Joint,
+    join: Join,
 ) -> Option<Plan>
     requires table { Table K.Kind.model K.Kind.numbers_of row.now spans.now }
     requires inside { at < length row.now }
@@ -60,6 +60,6 @@ pub fn commute<K: Kind>(row: &[Node<K>], spans: &[Span], at: usize) -> Option<Pl
     requires inside { at < length row.now }
     ensures { Planned K.Kind.numbers_of row.now result (other_side K.Kind.model ParallelCommutative Forth 0 (standing K.Kind.numbers_of row.now at)) }
 {
-    let (a, b) = join_at(row, spans, at, Joint::Parallel)?;
-    Some(Plan::Simple(Pieces::Two(Joint::Parallel, Piece::Part(b), Piece::Part(a))))
+    let (a, b) = join_at(row, spans, at, Join::Parallel)?;
+    Some(Plan::Simple(Pieces::Two(Join::Parallel, Piece::Part(b), Piece::Part(a))))
 }

@@ -3,6 +3,7 @@ mod assemble;
 mod associate;
 mod count;
 mod exchange;
+mod join;
 mod matching;
 mod plan;
 mod planning;

@@ -4,10 +4,10 @@ ghost use Rattle.algebra.specs.Score.{score_length};
 ghost use Rattle.rewriting.specs.Tables.{Table, standing};
 ghost use Rattle.rewriting.specs.Matches.{JoinFound, RestFound};
 
+use crate::join::Join;
 use crate::plan::Plan;
 use algebra::node::Node;
 use kinds::kind::Kind;
-use nodes::joint::Joint;
 use nodes::sight::{Sight, look};
 use nodes::span::Span;
 
@@ -16,15 +16,15 @@ pub fn join_at<K: Kind>(
     row: &[Node<K>],
     spans: &[Span],
     at: usize,
-    join: Joint,
+    join: Join,
 ) -> Option<(usize, usize)>
     requires table { Table K.Kind.model K.Kind.numbers_of row.now spans.now }
     requires inside { at < length row.now }
     ensures { JoinFound K.Kind.numbers_of row.now at join result }
 {
     match (look(row, spans, at), join) {
-        (Sight::Sequence(left, right), Joint::Sequence) => Some((left, right)),
-        (Sight::Parallel(left, right), Joint::Parallel) => Some((left, right)),
+        (Sight::Sequence(left, right), Join::Sequence) => Some((left, right)),
+        (Sight::Parallel(left, right), Join::Parallel) => Some((left, right)),
         _ => None,
     }
 }

@@ -1,5 +1,5 @@
 // Plans of a new score, made of rests and of scores that begin in a row.
-use nodes::joint::Joint;
+use crate::join::Join;
 
 // A rest, or a copy of the score that begins at a node.
 #[derive(Clone, Copy)]
@@ -12,12 +12,12 @@ pub enum Piece {
 #[derive(Clone, Copy)]
 pub enum Pieces {
     One(Piece),
-    Two(Joint, Piece, Piece),
+    Two(Join, Piece, Piece),
 }
 
 // One or two pieces, or a join of such.
 #[derive(Clone, Copy)]
 pub enum Plan {
     Simple(Pieces),
-    Joined(Joint, Pieces, Pieces),
+    Joined(Join, Pieces, Pieces),
 }

@@ -7,6 +7,7 @@ ghost use Rattle.rewriting.specs.Plans.{Planned};
 
 use crate::associate::{associate_back, associate_forth, commute};
 use crate::exchange::{exchange_back, exchange_forth};
+use crate::join::Join;
 use crate::matching::length_at;
 use crate::plan::Plan;
 use crate::rests::{merge_rests, split_rest, without_beside};
@@ -14,7 +15,6 @@ use crate::units::{with_left, with_right, without_left, without_right};
 use algebra::node::Node;
 use algebra::rule::{Rule, Way};
 use kinds::kind::Kind;
-use nodes::joint::Joint;
 use nodes::span::Span;
 
 // From the left side of a rule to its right side.
@@ -30,12 +30,12 @@ fn plan_forth<K: Kind>(
     ensures { Planned K.Kind.numbers_of row.now result (other_side K.Kind.model rule Forth split (standing K.Kind.numbers_of row.now at)) }
 {
     match rule {
-        Rule::SequenceAssociative => associate_forth(row, spans, at, Joint::Sequence),
-        Rule::ParallelAssociative => associate_forth(row, spans, at, Joint::Parallel),
+        Rule::SequenceAssociative => associate_forth(row, spans, at, Join::Sequence),
+        Rule::ParallelAssociative => associate_forth(row, spans, at, Join::Parallel),
         Rule::ParallelCommutative => commute(row, spans, at),
         Rule::SequenceUnitLeft => without_left(row, spans, at),
-        Rule::SequenceUnitRight => without_right(row, spans, at, Joint::Sequence),
-        Rule::ParallelUnit => without_right(row, spans, at, Joint::Parallel),
+        Rule::SequenceUnitRight => without_right(row, spans, at, Join::Sequence),
+        Rule::ParallelUnit => without_right(row, spans, at, Join::Parallel),
         Rule::RestSplit => merge_rests(row, spans, at),
         Rule::RestBeside => without_beside(row, spans, at),
         Rule::Exchange => exchange_forth(row, spans, at),
@@ -55,14 +55,14 @@ fn plan_back<K: Kind>(
     ensures { Planned K.Kind.numbers_of row.now result (other_side K.Kind.model rule Back split (standing K.Kind.numbers_of row.now at)) }
 {
     match rule {
-        Rule::SequenceAssociative => associate_back(row, spans, at, Joint::Sequence),
-        Rule::ParallelAssociative => associate_back(row, spans, at, Joint::Parallel),
+        Rule::SequenceAssociative => associate_back(row, spans, at, Join::Sequence),
+        Rule::ParallelAssociative => associate_back(row, spans, at, Join::Parallel),
         Rule::ParallelCommutative => commute(row, spans, at),
-        Rule::SequenceUnitLeft => Some(with_left(at, Joint::Sequence, 0)),
-        Rule::SequenceUnitRight => Some(with_right(at, Joint::Sequence)),
-        Rule::ParallelUnit => Some(with_right(at, Joint::Parallel)),
+        Rule::SequenceUnitLeft => Some(with_left(at, Join::Sequence, 0)),
+        Rule::SequenceUnitRight => Some(with_right(at, Join::Sequence)),
+        Rule::ParallelUnit => Some(with_right(at, Join::Parallel)),
         Rule::RestSplit => split_rest(row, spans, at, split),
-        Rule::RestBeside => Some(with_left(at, Joint::Parallel, length_at(row, spans, at))),
+        Rule::RestBeside => Some(with_left(at, Join::Parallel, length_at(row, spans, at))),
         Rule::Exchange => exchange_back(row, spans, at),
     }
 }

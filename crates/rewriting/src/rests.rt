@@ -6,11 +6,11 @@ ghost use Rattle.algebra.specs.Rewrite.{other_side};
 ghost use Rattle.rewriting.specs.Tables.{Table, standing};
 ghost use Rattle.rewriting.specs.Plans.{Planned};
 
+use crate::join::Join;
 use crate::matching::{join_at, length_at, rest_at, when};
 use crate::plan::{Piece, Pieces, Plan};
 use algebra::node::Node;
 use kinds::kind::Kind;
-use nodes::joint::Joint;
 use nodes::span::Span;
 
 // From (ri+rj) to the rest of both lengths.
@@ -19,7 +19,7 @@ pub fn merge_rests<K: Kind>(row: &[Node<K>], spans: &[Span], at: usize) -> Optio
     requires inside { at < length row.now }
     ensures { Planned K.Kind.numbers_of row.now result (other_side K.Kind.model RestSplit Forth 0 (standing K.Kind.numbers_of row.now at)) }
 {
-    let (left, right) = join_at(row, spans, at, Joint::Sequence)?;
+    let (left, right) = join_at(row, spans, at, Join::Sequence)?;
     let first = rest_at(row, spans, left)?;
     let second = rest_at(row, spans, right)?;
     Some(Plan::Simple(Pieces::One(Piece::Rest(first + second))))
@@ -36,7 +36,7 @@ pub fn split_rest<K: Kind>(row: &[Node<K>], spans: &[Span], at: usize, split: u3
         return None;
     }
     Some(Plan::Simple(Pieces::Two(
-        Joint::Sequence,
+        Join::Sequence,
         Piece::Rest(split),
         Piece::Rest(whole - split),
     )))
@@ -48,7 +48,7 @@ pub fn without_beside<K: Kind>(row: &[Node<K>], spans: &[Span], at: usize) -> Op
     requires inside { at < length row.now }
     ensures { Planned K.Kind.numbers_of row.now result (other_side K.Kind.model RestBeside Forth 0 (standing K.Kind.numbers_of row.now at)) }
 {
-    let (beside, a) = join_at(row, spans, at, Joint::Parallel)?;
+    let (beside, a) = join_at(row, spans, at, Join::Parallel)?;
     let ticks = rest_at(row, spans, beside)?;
     when(
         ticks == length_at(row, spans, a),

@@ -7,11 +7,11 @@ ghost use Rattle.rewriting.specs.Tables.{Table, standing};
 ghost use Rattle.rewriting.specs.Plans.{Planned};
 ghost use Rattle.rewriting.specs.Rules.{unit_right};
 
+use crate::join::Join;
 use crate::matching::{join_at, rest_at, when};
 use crate::plan::{Piece, Pieces, Plan};
 use algebra::node::Node;
 use kinds::kind::Kind;
-use nodes::joint::Joint;
 use nodes::span::Span;
 
 // From (r0+a) to a.
@@ -20,7 +20,7 @@ pub fn without_left<K: Kind>(row: &[Node<K>], spans: &[Span], at: usize) -> Opti
     requires inside { at < length row.now }
     ensures { Planned K.Kind.numbers_of row.now result (other_side K.Kind.model SequenceUnitLeft Forth 0 (standing K.Kind.numbers_of row.now at)) }
 {
-    let (unit, a) = join_at(row, spans, at, Joint::Sequence)?;
+    let (unit, a) = join_at(row, spans, at, Join::Sequence)?;
     let ticks = rest_at(row, spans, unit)?;
     when(ticks == 0, Plan::Simple(Pieces::One(Piece::Part(a))))
 }
@@ -30,7 +30,7 @@ pub fn without_right<K: Kind>(
     row: &[Node<K>],
     spans: &[Span],
     at: usize,
-    join: Joint,
+    join: Join,
 ) -> Option<Plan>
     requires table { Table K.Kind.model K.Kind.numbers_of row.now spans.now }
     requires inside { at < length row.now }
@@ -42,14 +42,14 @@ pub fn without_right<K: Kind>(
 }
 
 // From a to (rn a).
-pub fn with_left(at: usize, join: Joint, ticks: u32) -> Plan
+pub fn with_left(at: usize, join: Join, ticks: u32) -> Plan
     ensures { result ≡ Plan.Simple (Pieces.Two join (Piece.Rest ticks) (Piece.Part at)) }
 {
     Plan::Simple(Pieces::Two(join, Piece::Rest(ticks), Piece::Part(at)))
 }
 
 // From a to (a r0).
-pub fn with_right(at: usize, join: Joint) -> Plan
+pub fn with_right(at: usize, join: Join) -> Plan
     ensures { result ≡ Plan.Simple (Pieces.Two join (Piece.Part at) (Piece.Rest 0)) }
 {
     Plan::Simple(Pieces::Two(join, Piece::Part(at), Piece::Rest(0)))

@@ -1,4 +1,4 @@
-// Tidies a score file: reads it, puts it and its normal form on a rack, and writes the normal form.
+// Tidies a score file: reads it, puts it on a rack and writes it back.
 mod work;
 
 use crate::work::tidy;

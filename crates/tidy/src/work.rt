@@ -1,6 +1,5 @@
 // What tidying does with a text.
 use algebra::node::Node;
-use comparing::comparison::Comparison;
 use kinds::clip::Clip;
 use kinds::kind::Kind;
 use kinds::note::Note;
@@ -9,21 +8,10 @@ use reading::states::{FreshReading, HeadedReading};
 use refusals::refusal::Refusal;
 use std::fs;
 
-// The nodes of two places, and the bytes of the longest file.
-const NODES: usize = 2046;
+// The nodes of one place, and the bytes of the longest file.
+const SEGMENT: usize = 1023;
 
 const MOST_BYTES: usize = 16_384;
-
-// What the rack tells of a score and of its normal form, how the two compare, and how many bytes the normal file has.
-#[derive(Clone, Copy)]
-struct Tidied {
-    length: u32,
-    nodes: u32,
-    primitives: u32,
-    normal_nodes: u32,
-    comparison: Comparison,
-    bytes: u32,
-}
 
 fn say_refused(rt: &HostRuntime, why: Refusal) -> anyhow::Result<()> {
     println!(rt;
@@ -35,58 +23,31 @@ fn say_refused(rt: &HostRuntime, why: Refusal) -> anyhow::Result<()> {
     Ok(())
 }
 
-// Says what is known of the score and its normal form.
-fn say_tidied(rt: &HostRuntime, told: Tidied) -> anyhow::Result<()> {
-    println!(rt;
-        "score: length {}, {} nodes, {} primitives",
-        told.length, told.nodes, told.primitives
-    )?;
-    print!(rt; "normal form: {} nodes, compares as ", told.normal_nodes)?;
-    match told.comparison {
-        Comparison::Same => println!(rt; "same")?,
-        Comparison::Lengths { first, second } => println!(rt; "lengths {first} and {second}")?,
-        Comparison::Differs {
-            placed,
-            first,
-            second,
-        } => println!(rt; "counts {first} and {second} at onset {}", placed.onset)?,
-    }
-    Ok(())
-}
-
-// Loads a file at the first place, puts its normal form at the second, and writes the normal file into the buffer.
-fn tidy_on<K: Kind>(
-    rack: &mut Rack<'_, K>,
-    headed: HeadedReading<'_>,
-    buffer: &mut [u8],
-) -> Result<Tidied, Refusal> {
-    rack.load(0, headed)?;
-    let (length, nodes, primitives) = rack.tell(0)?;
-    rack.normalise(1, 0)?;
-    let (_, normal_nodes, _) = rack.tell(1)?;
-    let comparison = rack.compare(0, 1)?;
-    let bytes = rack.write_normal(0, 0, buffer)?;
-    Ok(Tidied {
-        length,
-        nodes,
-        primitives,
-        normal_nodes,
-        comparison,
-        bytes,
-    })
-}
-
-// Writes a file to the one named, or shows it.
-fn hand_on(rt: &HostRuntime, file: &[u8], to: Option<String>) -> anyhow::Result<()> {
-    let count = file.len();
+// Says what the rack tells of its first place, and writes it to the file named, or shows it.
+fn hand_on<K: Kind>(
+    rt: &HostRuntime,
+    rack: &Rack<'_, K>,
+    to: Option<String>,
+) -> anyhow::Result<()> {
+    let (length, nodes, primitives) = match rack.tell(0) {
+        Ok(told) => told,
+        Err(why) => return say_refused(rt, why),
+    };
+    println!(rt; "score: length {length}, {nodes} nodes, {primitives} primitives")?;
+    let mut buffer = vec![in rt.alloc(); 0u8; MOST_BYTES]?;
+    let count = match rack.write(0, &mut buffer) {
+        Ok(count) => count,
+        Err(why) => return say_refused(rt, why),
+    };
+    buffer.truncate(count as usize);
     match to {
         Some(name) => {
-            fs::write(rt, name.as_str(), file)?;
+            fs::write(rt, name.as_str(), buffer.as_slice())?;
             println!(rt; "wrote {name}: {count} bytes")?;
         }
         None => {
             println!(rt; "wrote {count} bytes:")?;
-            print!(rt; "{}", String::from_utf8_lossy(rt.alloc(), file)?)?;
+            print!(rt; "{}", String::from_utf8_lossy(rt.alloc(), &buffer)?)?;
         }
     }
     Ok(())
@@ -97,16 +58,12 @@ fn tidy_kind<K: Kind + Clone>(
     headed: HeadedReading<'_>,
     to: Option<String>,
 ) -> anyhow::Result<()> {
-    let mut nodes: Vec<Node<K>> = vec![in rt.alloc(); Node::Rest(0); NODES]?;
+    let mut nodes: Vec<Node<K>> = vec![in rt.alloc(); Node::Rest(0); SEGMENT]?;
     let mut rack = Rack::new(&mut nodes);
-    let mut buffer = vec![in rt.alloc(); 0u8; MOST_BYTES]?;
-    let told = match tidy_on(&mut rack, headed, &mut buffer) {
-        Ok(told) => told,
-        Err(why) => return say_refused(rt, why),
-    };
-    say_tidied(rt, told)?;
-    buffer.truncate(told.bytes as usize);
-    hand_on(rt, &buffer, to)
+    match rack.load(0, headed) {
+        Ok(()) => hand_on(rt, &rack, to),
+        Err(why) => say_refused(rt, why),
+    }
 }
 
 // Reads the head, chooses the kind by it, and does the rest on a rack of that kind.

@@ -1,7 +1,7 @@
 use Rattle.std.proofs.Common.{sym, subst, arith}
 use Rattle.std.proofs.lemmas.List.{length-map}
 use Rattle.algebra.specs.Layout.{seen}
-use Rattle.nodes.specs.declared.joint.Joint.TheVariants.{Sequence, Parallel}
+use Rattle.rewriting.specs.declared.join.Join.TheVariants.{Sequence, Parallel}
 use Rattle.rewriting.specs.Matches.{Parted}
 use Rattle.rewriting.proofs.Forms.{parted_pair}
 use Rattle.rewriting.proofs.matching.join_at.Goals as goal

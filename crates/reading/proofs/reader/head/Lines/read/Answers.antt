@@ -43,13 +43,13 @@ returns c =
     let ticks = c.in_ok-ticks.ensures in
     let count = c.in_ok-count.ensures in
     let lines = over_then (follows_any _) kind.over (over_then (follows_any _) ticks.over count.over) in
-    let passed = then_passed (follows_any _) sign.passed (passed_kept sign.text lines.passed) in
     record {
-      headed = record { small = omega arith; within = record { name = kind.name; short = ticks.small; few = count.small }; rest = _; split = passed.split };
+      small = omega arith;
+      within = record { name = kind.name; short = ticks.small; few = count.small };
       kind_at = kind.offset ∙ ap (λ n. n + 5) sign.passed.moved;
       ticks_at = behind_two signature (line (codes "kind=") c.in_ok-kind.kind.bytes.now) (codes "length=") _ _ _ sign.passed.moved kind.over.passed.moved ticks.offset;
       count_at =
           behind_three signature (line (codes "kind=") c.in_ok-kind.kind.bytes.now) (line (codes "length=") (decimal c.in_ok-ticks.ticks.value)) (codes "prims=") _ _ _ _
           sign.passed.moved kind.over.passed.moved ticks.over.passed.moved count.offset;
-      passed = passed;
+      passed = then_passed (follows_any _) sign.passed (passed_kept sign.text lines.passed);
     }

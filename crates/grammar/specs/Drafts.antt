@@ -1,8 +1,7 @@
 -- What a draft holds.
-use Rattle.std.specs.Prelude.{ℕ, cond, List, length, take, slice_index_or, slice_set}
+use Rattle.std.specs.Prelude.{ℕ, List, take, slice_index_or, slice_set}
 use Rattle.algebra.specs.declared.numbers.Numbers.{Numbers}
 use Rattle.algebra.specs.declared.node.Node.{Node}
-use Rattle.algebra.specs.declared.node.Node.TheVariants.{Rest}
 use Rattle.grammar.specs.declared.draft.Draft.{Draft}
 use Rattle.grammar.specs.declared.item.Item.{Item}
 use Rattle.grammar.specs.Items.{item}

@@ -1,13 +1,13 @@
 -- What a node of a row says of the score that begins there.
-use Rattle.std.proofs.Common.{◌≡◌, ℕ, suc, ◌+◌, ◌-◌, ◌*◌, ◌<◌, ◌≤◌, max, List, [], ◌∷◌, ◌++◌, map, length, get_or, take, drop, sym, refl, ap, ◌∙◌, subst, arith}
-use Rattle.std.proofs.lemmas.List.{length-map, get_or-map, drop-map, get_or-drop, get_or_default}
+use Rattle.std.proofs.Common.{◌≡◌, ℕ, ◌+◌, ◌<◌, ◌≤◌, List, ◌++◌, length, get_or, take, drop, sym, refl, ap, ◌∙◌, arith}
+use Rattle.std.proofs.lemmas.List.{length-map, get_or-map, get_or-drop}
 use Rattle.algebra.specs.declared.numbers.Numbers.{Numbers}
-use Rattle.algebra.specs.Score.{Score, Score.rest, Score.primitive, Score.sequence, Score.parallel, score_length, nodes, primitives}
+use Rattle.algebra.specs.Score.{Score, Score.rest, Score.primitive, Score.sequence, Score.parallel, nodes}
 use Rattle.algebra.specs.declared.node.Node.{Node}
 use Rattle.algebra.specs.declared.node.Node.TheVariants.{Rest, Primitive, Sequence, Parallel}
-use Rattle.algebra.specs.Layout.{seen, view, preorder, stack, foremost, score_at, score_of}
+use Rattle.algebra.specs.Layout.{seen, view, preorder, score_at, score_of}
 use Rattle.nodes.specs.Pairs.{Pair}
-use Rattle.nodes.proofs.Parts.{some_node, length_preorder, Within, here, sequence_left, sequence_right, parallel_left, parallel_right, place, place_end, inner, At, find, from_place, score_place, take_place, part_bare, part_primitives, behind}
+use Rattle.nodes.proofs.Parts.{some_node, length_preorder, Within, here, sequence_left, sequence_right, parallel_left, parallel_right, place, place_end, inner, At, find, from_place, score_place, take_place, behind}
 
 -- the first node of a score
 abbrev pub top : Score → Node Numbers

@@ -1,18 +1,18 @@
 -- What the table of spans has for a node, from what it has behind it.
-use Rattle.std.proofs.Common.{◌≡◌, ℕ, ◌+◌, ◌<◌, ◌≤◌, min, max, List, map, length, get_or, set, sym, refl, ap, ◌∙◌, subst, ⊎_elim, arith}
+use Rattle.std.proofs.Common.{◌≡◌, ℕ, ◌+◌, ◌<◌, ◌≤◌, List, length, get_or, set, sym, refl, ap, ◌∙◌, subst, ⊎_elim, arith}
 use Rattle.std.proofs.lemmas.Bool.{cases_eq}
 use Rattle.std.proofs.lemmas.List.{get_or-set_same, get_or-set_other}
 use Rattle.algebra.specs.declared.numbers.Numbers.{Numbers}
 use Rattle.algebra.specs.declared.node.Node.{Node}
 use Rattle.algebra.specs.declared.node.Node.TheVariants.{Rest, Primitive, Sequence, Parallel}
 use Rattle.algebra.specs.Kind.{KindModel}
-use Rattle.algebra.specs.Score.{Score, Score.rest, Score.primitive, Score.sequence, Score.parallel, score_length, nodes}
+use Rattle.algebra.specs.Score.{Score, Score.sequence, Score.parallel, nodes}
 use Rattle.algebra.specs.Layout.{score_at}
 use Rattle.nodes.specs.declared.span.Span.{Span}
 use Rattle.nodes.specs.Held.{Whole}
 use Rattle.nodes.specs.Pairs.{Pair}
-use Rattle.nodes.specs.Spans.{capped, span_of, no_span, Spanned, right_of, PartsInside, Inside, sequence_span, parallel_span, next_span}
-use Rattle.nodes.proofs.Readings.{top, top_there, rest_at, primitive_at, sequence_at, parallel_at}
+use Rattle.nodes.specs.Spans.{span_of, no_span, Spanned, right_of, PartsInside, Inside, sequence_span, parallel_span, next_span}
+use Rattle.nodes.proofs.Readings.{top, rest_at, primitive_at, sequence_at, parallel_at}
 
 module _ (K : KindModel) (xs : List (Node Numbers)) (whole : Whole xs) (small : length xs ≤ 1023) (spans : List Span) (room : length xs ≤ length spans) (at : ℕ) (behind : Spanned K xs spans (at + 1)) where
   record Listed (f : Score → Score → Score) : Type 0 where

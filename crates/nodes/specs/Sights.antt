@@ -1,7 +1,7 @@
 -- What is seen at a node.
-use Rattle.std.specs.Prelude.{◌≡◌, ℕ, ◌+◌, ◌≤◌, List, length}
+use Rattle.std.specs.Prelude.{◌≡◌, ℕ, List}
 use Rattle.algebra.specs.declared.numbers.Numbers.{Numbers}
-use Rattle.algebra.specs.Score.{Score, Score.rest, Score.primitive, Score.sequence, Score.parallel, nodes}
+use Rattle.algebra.specs.Score.{Score.rest, Score.primitive, Score.sequence, Score.parallel}
 use Rattle.algebra.specs.declared.node.Node.{Node}
 use Rattle.nodes.specs.declared.sight.Sight.{Sight}
 use Rattle.nodes.specs.declared.sight.Sight.TheVariants.{Rest, Primitive, Sequence, Parallel}

@@ -1,4 +1,6 @@
 // Renderers: what a score is drawn on.
+#![tactic(auto)]
+
 pub mod entry;
 pub mod examples;
 mod front;

@@ -1,4 +1,6 @@
 // One rewriting step of a score that stands in a row of nodes, written into another row.
+#![tactic(auto)]
+
 mod assemble;
 mod associate;
 mod count;

@@ -1,10 +1,7 @@
-use Rattle.std.proofs.Common.{◌+◌, ◌<◌, ◌≤◌, length, ap, ◌∙◌, arith}
+use Rattle.std.proofs.Common.{ap, ◌∙◌, arith}
 use Rattle.std.proofs.lemmas.List.{length-map}
 use Rattle.algebra.specs.Layout.{seen, view}
-use Rattle.algebra.specs.Score.{Score.sequence, Score.parallel}
-use Rattle.nodes.specs.Pairs.{Pair}
-use Rattle.nodes.specs.Spans.{right_of}
-use Rattle.nodes.proofs.Readings.{read_rest, read_primitive, shown, inside}
+use Rattle.nodes.proofs.Readings.{read_rest, read_primitive, shown}
 use Rattle.nodes.proofs.Tables.{sees_sequence, sees_parallel}
 use Rattle.nodes.proofs.sight.look.Goals as goal
 

@@ -1,6 +1,6 @@
-use Rattle.std.proofs.Common.{◌≡◌, ℕ, ◌+◌, ◌-◌, ◌<◌, ◌≤◌, length, sym, ap, ◌∙◌, subst, arith}
+use Rattle.std.proofs.Common.{◌≡◌, ◌+◌, ◌-◌, ◌≤◌, length, ◌∙◌, subst, arith}
 use Rattle.std.proofs.lemmas.List.{length-map}
-use Rattle.algebra.specs.Layout.{seen, view, score_at}
+use Rattle.algebra.specs.Layout.{seen, view}
 use Rattle.nodes.specs.Spans.{Spanned}
 use Rattle.nodes.proofs.Readings.{shown}
 use Rattle.nodes.proofs.Tables.{inside_at, span_at, spanned_more}

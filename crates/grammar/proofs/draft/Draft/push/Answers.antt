@@ -1,4 +1,4 @@
-use Rattle.std.proofs.Common.{◌≡◌, suc, ◌+◌, [], ◌∷◌, ◌++◌, length, take, set, sym, refl, ap, ◌∙◌, add-one, arith, take-suc-set}
+use Rattle.std.proofs.Common.{◌≡◌, [], ◌∷◌, ◌++◌, length, take, set, sym, ap, ◌∙◌, add-one, arith, take-suc-set}
 use Rattle.std.proofs.lemmas.List.{take_all, take_at, length-append, length-take-le}
 use Rattle.grammar.proofs.draft.Draft.push.Goals as goal
 

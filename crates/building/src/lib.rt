@@ -1,4 +1,6 @@
 // Scores made from one that stands in a row: changed or rewritten, within the limits of a place.
+#![tactic(auto)]
+
 pub mod change;
 pub mod making;
 pub mod part;

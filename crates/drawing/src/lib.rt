@@ -1,2 +1,4 @@
 // Scores drawn on renderers.
+#![tactic(auto)]
+
 pub mod draw;

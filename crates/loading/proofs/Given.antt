@@ -1,13 +1,12 @@
 -- What a text gives, from how it is read and what its file gives.
-use Rattle.std.proofs.Common.{◌≡◌, ℕ, List, IsErrAnd, Ok, Err, Result, sym, refl, ap, ◌∙◌, subst}
+use Rattle.std.proofs.Common.{◌≡◌, ℕ, List, IsErrAnd, Ok, Err, Result, sym, ◌∙◌, subst}
 use Rattle.algebra.specs.Kind.{KindModel}
-use Rattle.algebra.specs.Score.{Score}
 use Rattle.refusals.specs.declared.refusal.Refusal.{Refusal}
 use Rattle.grammar.specs.declared.head.Head.{Head}
 use Rattle.grammar.specs.declared.item.Item.{Item}
-use Rattle.grammar.specs.Described.{Describes, ReadAs}
+use Rattle.grammar.specs.Described.{ReadAs}
 use Rattle.grammar.specs.Refusals.{Refused}
-use Rattle.grammar.specs.Loads.{Loads, checked, file, refused}
+use Rattle.grammar.specs.Loads.{Loads, file, refused}
 use Rattle.loading.specs.declared.checking.Loaded.{Loaded}
 use Rattle.loading.specs.Checks.{Checks}
 use Rattle.loading.specs.Gives.{Gives}

@@ -1,4 +1,6 @@
 // What a reading handed on, checked for a kind and written as nodes of the kind.
+#![tactic(auto)]
+
 pub mod checking;
 mod counting;
 mod legality;

@@ -1,5 +1,4 @@
 use Rattle.std.proofs.Common.{sym, ◌∙◌, subst}
-use Rattle.grammar.specs.Drafts.{drafted}
 use Rattle.grammar.specs.Described.{ReadAs}
 use Rattle.loading.specs.Gives.{Gives}
 use Rattle.loading.proofs.Given.{gives_refused, gives_checked}

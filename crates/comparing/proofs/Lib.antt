@@ -1,5 +1,5 @@
 pub mod Bags
-pub mod Totals
+pub mod Sorts
 pub mod Ranking
 pub mod Partings
 pub mod Loops

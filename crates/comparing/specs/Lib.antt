@@ -1,3 +1,4 @@
 pub mod Order
+pub mod AnyOrder
 pub mod Sorting
 pub mod Comparisons

@@ -1,4 +1,6 @@
 // Comparing two scores that stand in rows of nodes.
+#![tactic(auto)]
+
 pub mod compare;
 pub mod comparison;
 mod differing;

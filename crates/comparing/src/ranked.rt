@@ -1,11 +1,9 @@
 // Placed primitives under the order of a kind, which their type names.
-ghost use Rattle.std.specs.Prelude.{◌≡◌, Some, refl};
+ghost use Rattle.std.specs.Prelude.{Some, refl};
+ghost use Rattle.std.specs.Cmp.{eq_by_cmp_equiv, on_total, partial_equiv_from_equiv, po};
 ghost use Rattle.std.specs.Ordering.{is_eq};
 ghost use Rattle.comparing.specs.Order.{any_order};
-ghost use Rattle.std.specs.Cmp.Rules.{comparing};
-ghost use Rattle.std.proofs.Common.{rules};
-ghost use Rattle.std.specs.Cmp as Keys;
-ghost use Rattle.std.specs.Cmp.{partial_order_from_agreeing_total};
+ghost use Rattle.comparing.specs.AnyOrder.{any_total};
 
 use crate::order::order;
 use kinds::kind::Kind;
@@ -23,7 +21,7 @@ pub struct Ranked<K> {
 impl<K: Kind> PartialEq for Ranked<K> {
     ghost eq = { λ x y. is_eq (any_order K.Kind.model x.item y.item) };
 
-    ghost laws = { Keys.partial_equiv_from_equiv (Prim.search (comparing, rules)) };
+    ghost laws = { partial_equiv_from_equiv (eq_by_cmp_equiv (on_total (λ x. x.item) (any_total K.Kind.model K.Kind.lawful.order))) };
 
     fn eq(&self, other: &Ranked<K>) -> bool {
         order::<K>(self.item, other.item).is_eq()
@@ -31,13 +29,13 @@ impl<K: Kind> PartialEq for Ranked<K> {
 }
 
 impl<K: Kind> Eq for Ranked<K> {
-    ghost laws = { Prim.search (comparing, rules) };
+    ghost laws = { eq_by_cmp_equiv (on_total (λ x. x.item) (any_total K.Kind.model K.Kind.lawful.order)) };
 }
 
 impl<K: Kind> PartialOrd for Ranked<K> {
     ghost partial_cmp = { λ x y. Some (any_order K.Kind.model x.item y.item) };
 
-    ghost laws = { partial_order_from_agreeing_total (λ x y. any_order K.Kind.model x.item y.item) (Prim.search (comparing, rules)) (λ _ _. refl) (Prim.search (comparing, rules)) };
+    ghost laws = { po (on_total (λ x. x.item) (any_total K.Kind.model K.Kind.lawful.order)) (λ x y. refl) };
 
     fn partial_cmp(&self, other: &Ranked<K>) -> Option<Ordering> {
         Some(order::<K>(self.item, other.item))
@@ -47,11 +45,11 @@ impl<K: Kind> PartialOrd for Ranked<K> {
 impl<K: Kind> Ord for Ranked<K> {
     ghost cmp = { λ x y. any_order K.Kind.model x.item y.item };
 
-    ghost total = { Prim.search (comparing, rules) };
+    ghost total = { on_total (λ x. x.item) (any_total K.Kind.model K.Kind.lawful.order) };
 
-    ghost matches_partial_cmp = { Prim.search (comparing, rules) };
+    ghost matches_partial_cmp = { λ x y. refl };
 
-    ghost matches_eq = { Prim.search (comparing, rules) };
+    ghost matches_eq = { λ x y. refl };
 
     fn cmp(&self, other: &Ranked<K>) -> Ordering {
         order::<K>(self.item, other.item)

@@ -40,7 +40,7 @@ fn sort_ranked<K: Kind>(list: &mut [Ranked<K>])
     ensures bag { SameBag (all_placed (items_of list.new)) (all_placed (items_of list.old)) }
     ensures legal { AllLegal K.Kind.model (items_of list.new) }
 {
-    list.sort();
+    list.sort_unstable();
 }
 
 // Puts placed primitives in order.

@@ -4,7 +4,7 @@ use Rattle.std.proofs.lemmas.List.{length-append}
 use Rattle.algebra.specs.Bag.{count, ordered_after}
 use Rattle.algebra.specs.Kind.{KindModel}
 use Rattle.algebra.specs.Meaning.{SameBag}
-use Rattle.algebra.specs.Normal.{line, lines, same_line, together, normal_after}
+use Rattle.algebra.specs.Normal.{line, together, normal_after}
 use Rattle.algebra.specs.Score.{Score, score_length, primitives, Placed, placed, same_placed}
 use Rattle.algebra.proofs.ByPlaced.{absent_all, after_by_placed, after_other_length}
 use Rattle.algebra.proofs.Complete.{placed_equality, same_bag}

@@ -1,5 +1,5 @@
 -- Those of a list that have a partner in another, and those that have none.
-use Rattle.std.specs.Prelude.{Bool, true, false, List, [], ◌∷◌}
+use Rattle.std.specs.Prelude.{Bool, true, false, List}
 use Rattle.algebra.specs.Bag.{partnered, unpartnered}
 use Rattle.algebra.specs.Score.{Placed, same_placed}
 

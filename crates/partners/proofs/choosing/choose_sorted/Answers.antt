@@ -6,7 +6,7 @@ use Rattle.nodes.proofs.Writings.{wrote_none, wrote_then, wrote_as}
 use Rattle.normal.specs.Placing.{placed_of, all_placed}
 use Rattle.partners.specs.Runs.{Tally}
 use Rattle.partners.proofs.Tallies.{nothing_spent}
-use Rattle.partners.proofs.Choices.{chosen_of, chosen_is, passed, passed_next, one_chosen, none_chosen, one_fits, wrote_there}
+use Rattle.partners.proofs.Choices.{chosen_of, chosen_is, passed_next, one_chosen, none_chosen, one_fits, wrote_there}
 use Rattle.partners.proofs.choosing.choose_sorted.Goals as goal
 use Rattle.partners.proofs.choosing.choose_sorted.Goals.{then-spend-partnered, else-spend-partnered}
 

@@ -1,6 +1,6 @@
 -- Lists with one bag.
 use Rattle.std.proofs.Common.{◌≤◌, List, [], ◌∷◌, arith}
-use Rattle.std.specs.List.{AllByRecursion as All}
+use Rattle.std.specs.List.{AllByRecursion}
 use Rattle.algebra.specs.Bag.{count}
 use Rattle.algebra.specs.Kind.{KindModel, LegalNumbers}
 use Rattle.algebra.specs.Meaning.{SameBag}
@@ -13,7 +13,7 @@ use Rattle.normal.specs.Placing.{all_placed, AllLegal}
 use Rattle.normal.proofs.Placings.{legal_from, legal_placed}
 
 -- what holds of all of a bag holds of all of each bag within it
-all_within : (P : Placed → Type 0) (xs ys : List Placed) → ((y : Placed) → count same_placed y ys ≤ count same_placed y xs) → All P xs → All P ys
+all_within : (P : Placed → Type 0) (xs ys : List Placed) → ((y : Placed) → count same_placed y ys ≤ count same_placed y xs) → AllByRecursion P xs → AllByRecursion P ys
 all_within P xs [] h a = tt
 all_within P xs (y ∷ ys) h a = (
   all_count P xs a y (omega (arith, h y, count_self placed_equality y ys)),

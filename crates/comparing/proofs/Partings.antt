@@ -1,6 +1,6 @@
 -- Where two lists in order first part, the lesser of what stands there is the least whose counts differ.
 use Rattle.std.proofs.Common.{◌≡◌, ℕ, true, not, List, [], ◌∷◌, ◌++◌, Some, None, Option, Ordering, Less, Equal, Greater, sym, refl, ap, ◌∙◌, subst, ap₂, inl, inr, arith}
-use Rattle.std.specs.List.{AllByRecursion as All}
+use Rattle.std.specs.List.{AllByRecursion}
 use Rattle.std.proofs.ByRecursion.{All-append, All-weaker}
 use Rattle.std.proofs.lemmas.Bool.{cases_eq, eqb-false, ne_eqb, not-true}
 use Rattle.algebra.specs.Bag.{count}
@@ -21,7 +21,7 @@ LeastDiffers K xs ys None = SameBag xs ys
 LeastDiffers K xs ys (Some x) = (count same_placed x xs ≡ count same_placed x ys → ⊥) × ((y : Placed) → compare_placed K y x ≡ Less → count same_placed y xs ≡ count same_placed y ys)
 
 -- what fails of everything in a list does not occur there
-pub absent : (P : Placed → Type 0) (xs : List Placed) → All P xs → (y : Placed) → (P y → ⊥) → count same_placed y xs ≡ 0
+pub absent : (P : Placed → Type 0) (xs : List Placed) → AllByRecursion P xs → (y : Placed) → (P y → ⊥) → count same_placed y xs ≡ 0
 absent P xs h y n = elim (cases_eq (count same_placed y xs) 0) [ inl e ↦ e | inr ne ↦ absurd (n (all_count P xs h y (omega arith))) ]
 
 exchanged : (K : KindModel) (xs ys : List Placed) (o : Option Placed) → LeastDiffers K xs ys o → LeastDiffers K ys xs o
@@ -44,13 +44,13 @@ answer_bags xs ys xs' ys' p q (Some x) = ap₂ (differs x) (p x) (q x)
 
 module _ (K : KindModel) (order : OrderLaws K) where
   abbrev AllLegal : List Placed → Type 0
-  AllLegal xs = All (LegalPlaced K order) xs
+  AllLegal xs = AllByRecursion (LegalPlaced K order) xs
 
   not_itself : (x : Placed) → LegalPlaced K order x → NotBefore K x x
   not_itself x l e = let s = self K order x l in let z : ◌≡◌ {A = ℕ} 0 1 = cc in omega arith
 
   -- the first of a list in order, where the other has nothing so small
-  ahead : (x : Placed) (xs ys : List Placed) → LegalPlaced K order x → All (NotBefore K x) xs → ((y : Placed) → compare_placed K y x ≡ Less → count same_placed y ys ≡ 0) → count same_placed x ys ≡ 0
+  ahead : (x : Placed) (xs ys : List Placed) → LegalPlaced K order x → AllByRecursion (NotBefore K x) xs → ((y : Placed) → compare_placed K y x ≡ Less → count same_placed y ys ≡ 0) → count same_placed x ys ≡ 0
       → LeastDiffers K (x ∷ xs) ys (Some x)
   ahead x xs ys l h below none = (
     (λ e. let s = placed_equality.self x in grind arith),
@@ -58,13 +58,13 @@ module _ (K : KindModel) (order : OrderLaws K) where
   )
 
   -- the other list begins behind x
-  behind : (x y : Placed) (ys : List Placed) → LegalPlaced K order x → AllLegal (y ∷ ys) → All (NotBefore K y) ys → compare_placed K x y ≡ Less → All (NotBefore K x) (y ∷ ys)
+  behind : (x y : Placed) (ys : List Placed) → LegalPlaced K order x → AllLegal (y ∷ ys) → AllByRecursion (NotBefore K y) ys → compare_placed K x y ≡ Less → AllByRecursion (NotBefore K x) (y ∷ ys)
   behind x y ys l legal h c = (
     (λ d. let s = flipped K order x y l legal.0 in let z : ◌≡◌ {A = ℕ} 0 1 = cc in omega arith),
     All-weaker (λ w. LegalPlaced K order w × NotBefore K y w) (NotBefore K x) (λ w g d. g.1 (before K order w x y g.0 l legal.0 d c)) ys (all_both (LegalPlaced K order) (NotBefore K y) ys legal.1 h),
   )
 
-  smaller : (x y : Placed) (xs ys : List Placed) → LegalPlaced K order x → AllLegal (y ∷ ys) → All (NotBefore K x) xs → All (NotBefore K y) ys → compare_placed K x y ≡ Less
+  smaller : (x y : Placed) (xs ys : List Placed) → LegalPlaced K order x → AllLegal (y ∷ ys) → AllByRecursion (NotBefore K x) xs → AllByRecursion (NotBefore K y) ys → compare_placed K x y ≡ Less
       → LeastDiffers K (x ∷ xs) (y ∷ ys) (Some x)
   smaller x y xs ys l legal h j c =
       ahead x xs (y ∷ ys) l h

@@ -1,7 +1,7 @@
 -- What a sort leaves has the bag of what it was given, and is in order.
 use Rattle.std.proofs.Common.{◌≡◌, ℕ, suc, ◌<◌, ◌≤◌, false, cond, List, [], ◌∷◌, length, get_or, sum_by, sym, refl, ◌∙◌, arith}
 use Rattle.std.specs.Ordering.{is_lt}
-use Rattle.std.specs.List.{AllByRecursion as All}
+use Rattle.std.specs.List.{AllByRecursion}
 use Rattle.std.specs.List.Sorted.{IsPermutation, IsSorted}
 use Rattle.std.proofs.ByRecursion.{All-map, All-from_get_or, All-get_or}
 use Rattle.std.proofs.lemmas.List.MinMax.{ranks_by}
@@ -27,7 +27,7 @@ module _ {P : Type 0} where
   pub shuffled_bag : (xs ys : List (Ranked P)) → IsPermutation xs ys → SameBag (all_placed (items_of ys)) (all_placed (items_of xs))
   shuffled_bag xs ys h z = count_sum z ys ∙ sum_by-IsPermutation (λ w. cond (same_placed z (placed_of w.item)) 1 0) xs ys h ∙ sym (count_sum z xs)
 
-  legal_unwrapped : (K : KindModel) (xs : List (Ranked P)) → AllLegal K (items_of xs) → All (λ x. LegalNumbers K x.item.numbers) xs
+  legal_unwrapped : (K : KindModel) (xs : List (Ranked P)) → AllLegal K (items_of xs) → AllByRecursion (λ x. LegalNumbers K x.item.numbers) xs
   legal_unwrapped K [] l = tt
   legal_unwrapped K (x ∷ xs) l = (l.0, legal_unwrapped K xs l.1)
 
@@ -38,7 +38,7 @@ not_before K x y l m e d =
     let z : ◌≡◌ {A = ℕ} 0 1 = cc in omega arith
 
 module _ {P : Type 0} (K : KindModel) (order : OrderLaws K) where
-  sorted_far : (xs : List (Ranked P)) → All (λ x. LegalNumbers K x.item.numbers) xs
+  sorted_far : (xs : List (Ranked P)) → AllByRecursion (λ x. LegalNumbers K x.item.numbers) xs
       → ((i j : ℕ) (d : Ranked P) → i ≤ j → j < length xs → is_lt (any_order K (get_or xs j d).item (get_or xs i d).item) ≡ false) → Sorted K (all_placed (items_of xs))
   sorted_far [] l h = tt
   sorted_far (x ∷ xs) l h = (

@@ -2,7 +2,7 @@
 use Rattle.std.specs.Prelude.{◌≡◌, cond, List, [], ◌∷◌}
 use Rattle.std.specs.declared.cmp.Ordering.TheVariants.{Less, Equal, Greater}
 use Rattle.std.specs.declared.cmp.Ordering.{Ordering}
-use Rattle.std.specs.List.{AllByRecursion as All}
+use Rattle.std.specs.List.{AllByRecursion}
 use Rattle.algebra.specs.declared.numbers.Numbers.{Numbers}
 use Rattle.algebra.specs.Kind.{KindModel, smaller_first}
 use Rattle.algebra.specs.Score.{Placed}
@@ -24,4 +24,4 @@ NotBefore K x y = compare_placed K y x ≡ Less → ⊥
 -- A list in order: none comes before one that stands ahead of it.
 abbrev pub Sorted : KindModel → List Placed → Type 0
 Sorted K [] = Unit {0}
-Sorted K (x ∷ xs) = All (NotBefore K x) xs × Sorted K xs
+Sorted K (x ∷ xs) = AllByRecursion (NotBefore K x) xs × Sorted K xs

@@ -1,7 +1,7 @@
 -- Where a placed primitive stands in a list in order.
 use Rattle.std.proofs.Common.{◌≡◌, ℕ, zero, suc, ◌+◌, ◌<◌, ◌≤◌, Bool, true, false, cond, List, [], ◌∷◌, length, get_or, Ordering, Less, Equal, Greater, sym, refl, ap, ◌∙◌, subst, zero-add, arith}
 use Rattle.std.specs.Ordering.{is_lt}
-use Rattle.std.specs.List.{AllByRecursion as All}
+use Rattle.std.specs.List.{AllByRecursion}
 use Rattle.std.proofs.ByRecursion.{All-get_or, All-weaker}
 use Rattle.algebra.specs.Bag.{count}
 use Rattle.algebra.specs.Kind.{KindModel, OrderLaws, opposite}
@@ -52,7 +52,7 @@ module _ (K : KindModel) where
 
 module _ (K : KindModel) (order : OrderLaws K) (x : Placed) (x_legal : LegalPlaced K order x) where
   abbrev AllLegal : List Placed → Type 0
-  AllLegal ys = All (LegalPlaced K order) ys
+  AllLegal ys = AllByRecursion (LegalPlaced K order) ys
 
   -- where the first does not come before x, nothing does
   under : (y z : Placed) → LegalPlaced K order y → LegalPlaced K order z → NotBefore K x y → compare_placed K z x ≡ Less → compare_placed K z y ≡ Less
@@ -63,7 +63,7 @@ module _ (K : KindModel) (order : OrderLaws K) (x : Placed) (x_legal : LegalPlac
       go Equal e = subst (λ w. compare_placed K z w ≡ Less) (sym (equal K order y x l x_legal e)) d
       go Greater e = before K order z x y m x_legal l d (flipped K order y x l x_legal ∙ ap opposite e)
 
-  none_before : (y : Placed) (ys : List Placed) → AllLegal (y ∷ ys) → Sorted K (y ∷ ys) → NotBefore K x y → All (NotBefore K x) (y ∷ ys)
+  none_before : (y : Placed) (ys : List Placed) → AllLegal (y ∷ ys) → Sorted K (y ∷ ys) → NotBefore K x y → AllByRecursion (NotBefore K x) (y ∷ ys)
   none_before y ys a s n = (
     n,
     All-weaker (λ z. LegalPlaced K order z × NotBefore K y z) (NotBefore K x) (λ z g d. g.1 (under y z a.0 g.0 n d)) ys (all_both (LegalPlaced K order) (NotBefore K y) ys a.1 s.0),
@@ -89,7 +89,7 @@ module _ (K : KindModel) (order : OrderLaws K) (x : Placed) (x_legal : LegalPlac
       absent (NotBefore K y) (y ∷ ys) (first, s.0) x (λ q. q up)
 
   -- where nothing comes before x, its occurrences stand first, and no more
-  run_is : (ys : List Placed) (u : ℕ) → AllLegal ys → Sorted K ys → All (NotBefore K x) ys → u < count same_placed x ys → Stands x ys u
+  run_is : (ys : List Placed) (u : ℕ) → AllLegal ys → Sorted K ys → AllByRecursion (NotBefore K x) ys → u < count same_placed x ys → Stands x ys u
   run_is [] u a s n l = absurd (omega arith)
   run_is (y ∷ ys) u a s n l = go (compare_placed K y x) refl u l (λ v. run_is ys v a.1 s.1 n.1)
     where
@@ -101,7 +101,7 @@ module _ (K : KindModel) (order : OrderLaws K) (x : Placed) (x_legal : LegalPlac
           stands_next x y ys v (known v (omega (arith, rw t at l)))
       go Greater e v l known = absurd (omega (arith, absent_ahead y ys a s e))
 
-  run_only : (ys : List Placed) (u : ℕ) → AllLegal ys → Sorted K ys → All (NotBefore K x) ys → Stands x ys u → u < count same_placed x ys
+  run_only : (ys : List Placed) (u : ℕ) → AllLegal ys → Sorted K ys → AllByRecursion (NotBefore K x) ys → Stands x ys u → u < count same_placed x ys
   run_only [] u a s n h = absurd (omega (arith, h.within))
   run_only (y ∷ ys) u a s n h = go (compare_placed K y x) refl u h (λ v. run_only ys v a.1 s.1 n.1)
     where
@@ -149,7 +149,7 @@ module _ (K : KindModel) (order : OrderLaws K) (x : Placed) (x_legal : LegalPlac
       go false e known h = run_only (y ∷ ys) u a s (none_before y ys a s (not_less y _ refl e)) (subst (Stands x (y ∷ ys)) (zero-add u) h)
 
 -- two that occur and whose runs begin at one place are the same
-pub starts_apart : (K : KindModel) (order : OrderLaws K) (x y : Placed) (zs : List Placed) → All (LegalPlaced K order) zs → Sorted K zs → 0 < count same_placed x zs → 0 < count same_placed y zs
+pub starts_apart : (K : KindModel) (order : OrderLaws K) (x y : Placed) (zs : List Placed) → AllByRecursion (LegalPlaced K order) zs → Sorted K zs → 0 < count same_placed x zs → 0 < count same_placed y zs
     → start_of_run K x zs ≡ start_of_run K y zs → x ≡ y
 starts_apart K order x y zs a s p q e =
     let h = at_start K order x (all_count (LegalPlaced K order) zs a x p) zs 0 a s p in

@@ -1,6 +1,6 @@
 -- How a tally of spent partners goes on.
 use Rattle.std.proofs.Common.{◌≡◌, ℕ, suc, ◌+◌, ◌<◌, ◌≤◌, min, Bool, true, false, cond, ◌≢◌, List, [], ◌∷◌, length, get_or, set, replicate, sym, refl, ap, ◌∙◌, subst, inl, inr, arith, le-ltb, lt-ltb}
-use Rattle.std.specs.List.{AllByRecursion as All}
+use Rattle.std.specs.List.{AllByRecursion}
 use Rattle.std.proofs.lemmas.Bool.{cases_lt}
 use Rattle.std.proofs.lemmas.List.{get_or-set_same, get_or-set_other, get_or_past, get_or-replicate, length-replicate}
 use Rattle.algebra.specs.Bag.{count}
@@ -22,7 +22,7 @@ none_yet n k = elim (cases_lt k n) [
 pub nothing_spent : (K : KindModel) (other : List Placed) (n : ℕ) → Tally K other (replicate n 0) []
 nothing_spent K other n x p = none_yet n (start_of_run K x other) ∙ omega arith
 
-module _ (K : KindModel) (order : OrderLaws K) (y : Placed) (ws : List Placed) (spent : List ℕ) (y_legal : LegalPlaced K order y) (legal : All (LegalPlaced K order) ws) (sorted : Sorted K ws) (room : length ws ≤ length spent) where
+module _ (K : KindModel) (order : OrderLaws K) (y : Placed) (ws : List Placed) (spent : List ℕ) (y_legal : LegalPlaced K order y) (legal : AllByRecursion (LegalPlaced K order) ws) (sorted : Sorted K ws) (room : length ws ≤ length spent) where
   abbrev start : ℕ
   start = start_of_run K y ws
 

@@ -68,7 +68,7 @@ segments_apart to a n m ne h k = elim (side a to ne) [ inl l ↦ inl (omega arit
     side a to ne = grind arith
 
 -- two places that can be joined at a third
-module _ {P : Type 0} (f : P → Numbers) (rack : Rack P) (to a b : ℕ) (ready : Joinable rack to a b) where
+module _ {P : Type 0} {g : _} (f : P → Numbers) (rack : Rack P g) (to a b : ℕ) (ready : Joinable rack to a b) where
   abbrev ns : List (Node P)
   ns = rack.row.nodes.now
 

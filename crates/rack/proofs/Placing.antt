@@ -104,7 +104,7 @@ module _ (K : KindModel) (xs xs' : List (Node Numbers)) (to : ℕ) (s : Score) (
       })
 
 -- the same of a rack
-module _ {P : Type 0} (f : P → Numbers) (rack : Rack P) (ns' : List (Node P)) (to : ℕ) (place : Place) (o : Option Score) (there : to < number rack.row.nodes.now)
+module _ {P : Type 0} {g : _} (f : P → Numbers) (rack : Rack P g) (ns' : List (Node P)) (to : ℕ) (place : Place) (o : Option Score) (there : to < number rack.row.nodes.now)
     (w : Placed (view f rack.row.nodes.now) (view f ns') to place o) where
   tested_before : AllTested (view f rack.row.nodes.now) rack.places
   tested_before = tested_view f rack.row.nodes.now rack.places rack.sound
@@ -113,42 +113,42 @@ module _ {P : Type 0} (f : P → Numbers) (rack : Rack P) (ns' : List (Node P)) 
   there_seen = omega (arith, number_view f rack.row.nodes.now)
 
   -- its invariant
-  rack_sound : (length (set rack.places to place) ≡ 8) × (AllSound ns' (set rack.places to place) × Unit {0})
-  rack_sound = (
-    length-set rack.places to place ∙ rack.eight,
-    (sound_from f ns' (set rack.places to place) (sound_after (view f rack.row.nodes.now) (view f ns') rack.places to place o rack.eight tested_before there_seen w), tt),
-  )
+  rack_sound : record { eight : length (set rack.places to place) ≡ 8; sound : AllSound ns' (set rack.places to place) }
+  rack_sound = record {
+    eight = length-set rack.places to place ∙ rack.eight;
+    sound = sound_from f ns' (set rack.places to place) (sound_after (view f rack.row.nodes.now) (view f ns') rack.places to place o rack.eight tested_before there_seen w);
+  }
 
   -- what its places hold
   rack_holds : shelf_of (view f ns') (set rack.places to place) ≡ set (shelf f rack) to o
   rack_holds = shelf_after (view f rack.row.nodes.now) (view f ns') rack.places to place o rack.eight tested_before there_seen w
 
 -- a rack after a score is written at a place and noted there
-module _ {P : Type 0} (K : KindModel) (f : P → Numbers) (rack : Rack P) (ns' : List (Node P)) (to : ℕ) (s : Score) (place : Place) (there : to < number rack.row.nodes.now)
+module _ {P : Type 0} {g : _} (K : KindModel) (f : P → Numbers) (rack : Rack P g) (ns' : List (Node P)) (to : ℕ) (s : Score) (place : Place) (there : to < number rack.row.nodes.now)
     (e : view f ns' ≡ overlaid (view f rack.row.nodes.now) (to * 1023) (preorder s)) (fits : Fits K s) (noted : place ≡ place_of (size_of K s)) where
   placed : Placed (view f rack.row.nodes.now) (view f ns') to place (Some s)
   placed = placed_score K (view f rack.row.nodes.now) (view f ns') to s place (omega (arith, number_view f rack.row.nodes.now, there)) e fits noted
 
-  pub score_sound : (length (set rack.places to place) ≡ 8) × (AllSound ns' (set rack.places to place) × Unit {0})
+  pub score_sound : record { eight : length (set rack.places to place) ≡ 8; sound : AllSound ns' (set rack.places to place) }
   score_sound = rack_sound f rack ns' to place (Some s) there placed
 
   pub score_holds : shelf_of (view f ns') (set rack.places to place) ≡ set (shelf f rack) to (Some s)
   score_holds = rack_holds f rack ns' to place (Some s) there placed
 
 -- a rack whose nodes are as they were, by the numbers of the primitives
-module _ {P : Type 0} (f : P → Numbers) (rack : Rack P) (ns' : List (Node P)) (e : view f ns' ≡ view f rack.row.nodes.now) where
-  pub same_sound : (length rack.places ≡ 8) × (AllSound ns' rack.places × Unit {0})
-  same_sound = (rack.eight, (sound_from f ns' rack.places (subst (λ xs. AllTested xs rack.places) (sym e) (tested_view f rack.row.nodes.now rack.places rack.sound)), tt))
+module _ {P : Type 0} {g : _} (f : P → Numbers) (rack : Rack P g) (ns' : List (Node P)) (e : view f ns' ≡ view f rack.row.nodes.now) where
+  pub same_sound : record { eight : length rack.places ≡ 8; sound : AllSound ns' rack.places }
+  same_sound = record { eight = rack.eight; sound = sound_from f ns' rack.places (subst (λ xs. AllTested xs rack.places) (sym e) (tested_view f rack.row.nodes.now rack.places rack.sound)) }
 
   pub same_holds : shelf_of (view f ns') rack.places ≡ shelf f rack
   same_holds = ap (λ xs. shelf_of xs rack.places) e
 
 -- a rack after the note of a place is emptied
-module _ {P : Type 0} (f : P → Numbers) (rack : Rack P) (to : ℕ) (there : to < number rack.row.nodes.now) where
+module _ {P : Type 0} {g : _} (f : P → Numbers) (rack : Rack P g) (to : ℕ) (there : to < number rack.row.nodes.now) where
   placed_nothing : Placed (view f rack.row.nodes.now) (view f rack.row.nodes.now) to empty_place None
   placed_nothing = record { as_long = refl; before = refl; beyond = refl; here_sound = refl; here_held = refl }
 
-  pub empty_sound : (length (set rack.places to empty_place) ≡ 8) × (AllSound rack.row.nodes.now (set rack.places to empty_place) × Unit {0})
+  pub empty_sound : record { eight : length (set rack.places to empty_place) ≡ 8; sound : AllSound rack.row.nodes.now (set rack.places to empty_place) }
   empty_sound = rack_sound f rack rack.row.nodes.now to empty_place None there placed_nothing
 
   pub empty_holds : shelf_of (view f rack.row.nodes.now) (set rack.places to empty_place) ≡ set (shelf f rack) to None

@@ -21,7 +21,7 @@ abbrev pub joinable : Shelf → ℕ → ℕ → ℕ → List Check
 joinable shelf to a b = known shelf to ∷ known shelf a ∷ known shelf b ∷ holding shelf a ∷ holding shelf b ∷ vacant shelf to ∷ []
 
 -- Two places hold scores, and the destination is an empty place.
-pub record Joinable {K : Type 0} (rack : Rack K) (to a b : ℕ) : Type 0 where
+pub record Joinable {K : Type 0} {g : _} (rack : Rack K g) (to a b : ℕ) : Type 0 where
   pub to_known : to < number rack.row.nodes.now
   pub first_known : a < number rack.row.nodes.now
   pub second_known : b < number rack.row.nodes.now
@@ -42,7 +42,7 @@ abbrev pub makeable : Shelf → ℕ → ℕ → List Check
 makeable shelf to from = known shelf to ∷ known shelf from ∷ holding shelf from ∷ vacant shelf to ∷ []
 
 -- One place holds a score, and the destination is an empty place.
-pub record Makeable {K : Type 0} (rack : Rack K) (to from : ℕ) : Type 0 where
+pub record Makeable {K : Type 0} {g : _} (rack : Rack K g) (to from : ℕ) : Type 0 where
   pub to_known : to < number rack.row.nodes.now
   pub from_known : from < number rack.row.nodes.now
   pub from_held : 0 < (place_at rack.places from).nodes

@@ -20,7 +20,7 @@ abbrev pub both_holding : Shelf → ℕ → ℕ → Check
 both_holding shelf a b = all (known shelf a ∷ known shelf b ∷ holding shelf a ∷ holding shelf b ∷ [])
 
 -- Two places of the rack hold scores.
-pub record BothHeld {K : Type 0} (rack : Rack K) (a b : ℕ) : Type 0 where
+pub record BothHeld {K : Type 0} {g : _} (rack : Rack K g) (a b : ℕ) : Type 0 where
   pub first_known : a < number rack.row.nodes.now
   pub second_known : b < number rack.row.nodes.now
   pub first_held : 0 < (place_at rack.places a).nodes

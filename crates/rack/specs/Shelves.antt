@@ -21,7 +21,7 @@ held_at xs place p = cond (place.nodes == 0) None (Some (score_of (used xs place
 abbrev pub shelf_of : List (Node Numbers) → List Place → Shelf
 shelf_of xs places = map (λ p. held_at xs (place_at places p) p) (range_with_len 0 (number xs))
 
-abbrev pub shelf : {K : Type 0} → (K → Numbers) → Rack K → Shelf
+abbrev pub shelf : {K : Type 0} {g : _} → (K → Numbers) → Rack K g → Shelf
 shelf f rack = shelf_of (view f rack.row.nodes.now) rack.places
 
 -- What a place holds; nothing where there is no such place.

@@ -24,7 +24,7 @@ rewritable shelf place node =
     known shelf place ∷ holding shelf place ∷ unless (nat_lt node count) (NoSuchNode count) ∷ []
 
 -- The place holds a score that has the node.
-pub record Rewritable {K : Type 0} (rack : Rack K) (place node : ℕ) : Type 0 where
+pub record Rewritable {K : Type 0} {g : _} (rack : Rack K g) (place node : ℕ) : Type 0 where
   pub known : place < number rack.row.nodes.now
   pub held : 0 < (place_at rack.places place).nodes
   pub there : node < (place_at rack.places place).nodes

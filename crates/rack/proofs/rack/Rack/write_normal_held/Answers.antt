@@ -25,9 +25,9 @@ write_normal_from-requires g c =
     let other-is = c.noted-2.ensures.place in
     record {
       held = subst (λ (q : Place). Held (used (view f ns) q p)) (sym own_is) own.used_held;
-      model-held = subst (λ (q : Place). Held (used (view f ns) q m)) (sym other-is) other.used_held;
+      model_held = subst (λ (q : Place). Held (used (view f ns) q m)) (sym other-is) other.used_held;
       inside = omega (arith, segment_within ns p c.requires.first_known, own.few_nodes, ap (λ (q : Place). q.nodes) own_is);
-      model-inside = omega (arith, segment_within ns m c.requires.second_known, other.few_nodes, ap (λ (q : Place). q.nodes) other-is);
+      model_inside = omega (arith, segment_within ns m c.requires.second_known, other.few_nodes, ap (λ (q : Place). q.nodes) other-is);
       wide = omega (arith, segment_within ns p c.requires.first_known);
     }
 

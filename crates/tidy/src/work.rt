@@ -75,7 +75,7 @@ pub fn tidy(rt: &HostRuntime, text: &[u8], to: Option<String>) -> anyhow::Result
     let (kind, length, primitives) = headed.tell();
     let name = String::from_utf8_lossy(rt.alloc(), kind)?;
     println!(rt; "head: kind {name}, length {length}, {primitives} primitives")?;
-    if kind == b"clip" {
+    if kind == b"clip".as_slice() {
         tidy_kind::<Clip>(rt, headed, to)
     } else {
         tidy_kind::<Note>(rt, headed, to)

@@ -1,4 +1,6 @@
 // Loads the files of a table of edge cases, and compares what each gives with what the table says.
+#![tactic(auto)]
+
 mod case;
 
 use crate::case::{Case, parse};

@@ -1,9 +1,8 @@
 -- What is asked of two places follows from the ledger.
-use Rattle.std.proofs.Common.{◌≡◌, ℕ, ◌↔◌, List, [], ◌∷◌, map, Some, None, Ok, Err, Option, Result, sym, refl, ap, ◌∙◌, subst, arith}
-use Rattle.refusals.specs.declared.refusal.Refusal.{Refusal}
+use Rattle.std.proofs.Common.{◌≡◌, ℕ, ◌↔◌, List, map, Some, None, Ok, Err, Option, sym, refl, ap, ◌∙◌, subst, arith}
 use Rattle.refusals.specs.Checks.{Check, followed}
 use Rattle.algebra.specs.Kind.{KindModel, KindLaws}
-use Rattle.algebra.specs.Score.{Score, score_length, Placed, placed}
+use Rattle.algebra.specs.Score.{Score, Placed, placed}
 use Rattle.algebra.specs.Meaning.{Means}
 use Rattle.algebra.specs.Rules.{Chain}
 use Rattle.algebra.specs.Compare.{Answer, Answer.same, Answer.lengths, Answer.differs, Says, SaysOf, compared}
@@ -18,7 +17,7 @@ use Rattle.render.proofs.Drawings.{permuted_drawn}
 use Rattle.drawing.specs.Drawn.{entry_of, drawn, drawn_score}
 use Rattle.building.specs.Rows.{score_in}
 use Rattle.rack.specs.Shelves.{Shelf, at, score_held}
-use Rattle.rack.specs.Comparing.{both_holding, compare_answer, OnlyAnswer}
+use Rattle.rack.specs.Comparing.{both_holding}
 use Rattle.rack.proofs.Comparing.{same_exactly, only_answer}
 use Rattle.rack.proofs.NormalFiles.{bytes_decide}
 use Rattle.ledger.specs.Ledgers.{Page, Ledger, page}

@@ -1,20 +1,20 @@
 -- Each call leaves the rack as the ledger that is kept of it says.
-use Rattle.std.proofs.Common.{◌≡◌, ℕ, zero, suc, ◌<◌, ◌≤◌, Bool, true, false, ltb, leb, ◌≢◌, List, [], ◌∷◌, ◌++◌, length, get_or, set, replicate, is_some, Some, None, Ok, Err, Option, Result, sym, refl, ap, ◌∙◌, subst, inl, inr, arith}
+use Rattle.std.proofs.Common.{◌≡◌, ℕ, ◌<◌, Bool, true, false, leb, List, [], ◌∷◌, length, set, is_some, Some, None, Ok, Err, Option, Result, sym, refl, ap, ◌∙◌, subst, inl, inr, arith}
 use Rattle.std.proofs.lemmas.Bool.{cases_eq}
 use Rattle.std.proofs.lemmas.List.{length-set, get_or-set_same, get_or-set_other}
 use Rattle.refusals.specs.declared.refusal.Refusal.{Refusal}
 use Rattle.algebra.specs.Kind.{KindModel, KindLaws}
-use Rattle.algebra.specs.Score.{Score, Score.rest, Score.sequence, Score.parallel, nodes}
+use Rattle.algebra.specs.Score.{Score, Score.rest}
 use Rattle.algebra.specs.Cuts.{taken, dropped, reversed}
 use Rattle.algebra.specs.Normal.{normal}
 use Rattle.algebra.specs.Limits.{Fits}
 use Rattle.grammar.specs.Loads.{Loads}
 use Rattle.grammar.proofs.Standing.{one_answer, read_exactly}
 use Rattle.rack.specs.Shelves.{Shelf, at, score_held}
-use Rattle.refusals.specs.Checks.{Check, passed, unless, all}
+use Rattle.refusals.specs.Checks.{Check, passed, unless}
 use Rattle.building.specs.Sizes.{limits}
 use Rattle.rack.specs.Checks.{known, holding, vacant}
-use Rattle.rack.specs.Calls.{put, cleared, clear_answer, tell_answer, file_check, score_read, load_answer, bytes_at, write_answer}
+use Rattle.rack.specs.Calls.{put, cleared, clear_answer, file_check, score_read, load_answer}
 use Rattle.rack.specs.Building.{rest_answer, joinable, joined_at, join_answer, makeable, make_answer}
 use Rattle.building.specs.Rows.{score_in}
 use Rattle.building.specs.Steps.{step_named, step_checks, stepped}
@@ -24,8 +24,8 @@ use Rattle.nodes.specs.declared.joint.Joint.TheVariants as joint
 use Rattle.ledger.specs.declared.call.Call.{Call}
 use Rattle.ledger.specs.declared.call.Call.TheVariants as call
 use Rattle.ledger.specs.declared.call.Answer.{Answer}
-use Rattle.ledger.specs.Ledgers.{Page, Ledger, page, blank, load_page, rest_page, sequence_page, parallel_page, reverse_page, take_page, drop_page, normal_page, rescored, from_one, from_two, Accepted, refused, Entered, Kept}
-use Rattle.ledger.specs.Runs.{RendererAt, State, done_of, told_of, wrote_of, Gave, shelved, Puts, Makes, Joins, Did, Ran}
+use Rattle.ledger.specs.Ledgers.{Page, Ledger, page, load_page, rest_page, sequence_page, parallel_page, reverse_page, take_page, drop_page, normal_page, rescored, from_one, from_two, Accepted, refused, Entered}
+use Rattle.ledger.specs.Runs.{RendererAt, State, done_of, Gave, shelved, Puts, Did}
 use Rattle.ledger.specs.Stands.{Holds, Agrees, Stands}
 use Rattle.ledger.proofs.Passing.{all_split, all_parts, unless_true, known_below, holding_some, within_short, within_limits}
 use Rattle.ledger.proofs.Pages.{load_holds, rest_holds, sequence_holds, parallel_holds, normal_holds, rewrite_agrees, reverse_holds, take_holds, drop_holds}

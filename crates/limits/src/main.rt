@@ -1,4 +1,6 @@
 // Plays calls at the limits of a rack of notes, and compares each answer with what the rules say.
+#![tactic(auto)]
+
 mod call;
 mod counts;
 mod lengths;

@@ -4,7 +4,7 @@ use Rattle.std.proofs.lemmas.List.{take_at}
 use Rattle.algebra.specs.declared.numbers.Numbers.{Numbers}
 use Rattle.algebra.specs.declared.node.Node.{Node}
 use Rattle.algebra.specs.Kind.{KindModel, KindLaws}
-use Rattle.algebra.specs.Score.{Score, Legal, nodes, primitives, score_length}
+use Rattle.algebra.specs.Score.{Score, Legal, primitives, score_length}
 use Rattle.algebra.specs.Layout.{preorder, score_of}
 use Rattle.algebra.specs.Normal.{normal_after}
 use Rattle.algebra.proofs.Complete.{sound_and_complete, after_reached}

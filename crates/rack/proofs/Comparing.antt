@@ -3,7 +3,7 @@ use Rattle.std.proofs.Common.{◌≡◌, ℕ, ◌↔◌, sym, refl, ap, ◌∙�
 use Rattle.algebra.specs.Kind.{KindModel, OrderLaws}
 use Rattle.algebra.specs.Score.{Score, Legal}
 use Rattle.algebra.specs.Rules.{Chain}
-use Rattle.algebra.specs.Compare.{Answer, Answer.same, Answer.lengths, Answer.differs, Says, compared}
+use Rattle.algebra.specs.Compare.{Answer, Answer.same, Answer.lengths, Answer.differs, compared}
 use Rattle.algebra.proofs.Compare.{compare_says}
 use Rattle.algebra.proofs.Differing.{compare_same}
 use Rattle.comparing.specs.declared.comparison.Comparison.{Comparison}

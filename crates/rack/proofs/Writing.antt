@@ -1,17 +1,14 @@
 -- The bytes that write gives are the one file of the held score.
-use Rattle.std.proofs.Common.{◌≡◌, ℕ, ◌≤◌, List, [], ◌∷◌, ◌++◌, length, take, drop, IfOk, Ok, Err, Result, sym, refl, ap, ◌∙◌, subst, arith}
+use Rattle.std.proofs.Common.{◌≡◌, ℕ, ◌≤◌, List, length, take, drop, IfOk, Ok, Err, Result, sym, ap, ◌∙◌, subst, arith}
 use Rattle.std.proofs.lemmas.List.{take_at}
 use Rattle.algebra.specs.Kind.{KindModel, KindLaws}
 use Rattle.algebra.specs.Score.{Score, Legal, nodes, primitives, score_length}
 use Rattle.refusals.specs.declared.refusal.Refusal.{Refusal}
 use Rattle.grammar.specs.Loads.{Loads, file_bytes}
-use Rattle.algebra.specs.Limits.{Holdable}
 use Rattle.grammar.proofs.Standing.{one_answer, read_exactly, written_back}
 use Rattle.writing.specs.Writes.{written_answer, written_over}
-use Rattle.rack.specs.Shelves.{Shelf}
-use Rattle.refusals.specs.Checks.{Check}
-use Rattle.rack.specs.Calls.{LoadedAt, load_answer, put, score_read}
-use Rattle.rack.specs.Written.{Returned, FileOf}
+use Rattle.rack.specs.Calls.{load_answer, put, score_read}
+use Rattle.rack.specs.Written.{FileOf}
 
 module _ (K : KindModel) (laws : KindLaws K) (s : Score) (legal : Legal K s) (few : nodes s ≤ 1023) (sparse : primitives s ≤ 170) where
   accepted : score_length K s ≤ 16777215 → Loads K (file_bytes K s) (Ok s)

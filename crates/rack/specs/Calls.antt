@@ -5,7 +5,7 @@ use Rattle.algebra.specs.Score.{Score, Score.rest, nodes, primitives, score_leng
 use Rattle.refusals.specs.declared.refusal.Refusal.{Refusal}
 use Rattle.grammar.specs.Loads.{Loads, file_bytes}
 use Rattle.writing.specs.Writes.{written_answer}
-use Rattle.rack.specs.Shelves.{Shelf, at, score_held}
+use Rattle.rack.specs.Shelves.{Shelf, score_held}
 use Rattle.refusals.specs.Checks.{Check, passed, all, followed}
 use Rattle.rack.specs.Checks.{known, holding, vacant}
 

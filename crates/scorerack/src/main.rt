@@ -1,4 +1,6 @@
 // Plays a script of calls from standard input on one rack. Files named in it are read from the current folder.
+#![tactic(auto)]
+
 mod call;
 mod draw;
 mod play;

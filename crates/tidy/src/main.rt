@@ -1,4 +1,6 @@
 // Tidies a score file: reads it, puts it on a rack and writes it back.
+#![tactic(auto)]
+
 mod work;
 
 use crate::work::tidy;

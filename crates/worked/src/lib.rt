@@ -1,4 +1,6 @@
 // Worked cases of files, refusals and calls on a rack, proved as one table.
+#![tactic(auto)]
+
 ghost use Rattle.worked.specs.Worked.{Worked};
 
 use kinds::examples;

@@ -1,4 +1,4 @@
-use Rattle.std.proofs.Common.{sym, refl, rules}
+use Rattle.std.proofs.Common.{sym, rules}
 use Rattle.rack.proofs.Standing.{standing}
 use Rattle.rack.proofs.rack.Rack.noted.Goals as goal
 

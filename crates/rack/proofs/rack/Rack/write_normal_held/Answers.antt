@@ -1,4 +1,4 @@
-use Rattle.std.proofs.Common.{◌≡◌, ◌*◌, length, sym, ap, ◌∙◌, subst, ap₂, arith}
+use Rattle.std.proofs.Common.{length, sym, ap, ◌∙◌, subst, ap₂, arith}
 use Rattle.algebra.specs.Layout.{view, score_of}
 use Rattle.nodes.specs.Held.{Held}
 use Rattle.normal_file.specs.Bytes.{normal_bytes}

@@ -2,7 +2,7 @@
 """Faults in the code must be turned away by the proofs.
 
 tests/bugs/NAME.txt has the faults of the crate NAME. Each is planted, one at a time, in a copy of the repository in a
-temporary folder, and checked there by `rt dev NAME`, which takes over what has not changed. Without a fault the copy has to
+temporary folder, and checked there by `rt check`, which takes over what has not changed. Without a fault the copy has to
 be proved, so that nothing else is the reason. Nothing is written outside the temporary folder.
 
     tests/bugs.py             all crates that have faults
@@ -57,28 +57,26 @@ def faults_of(name):
     return faults
 
 
-def copied(room, name):
-    """Copies what a check of a crate reads: the crates, and what earlier checks left of them."""
-    shutil.copytree(ROOT / "crates", room / "crates")
+def copied(room):
+    """Copies what a check of a crate reads. The first check there begins with what checks of these crates kept on the machine."""
+    shutil.copytree(ROOT / "crates", room / "crates", ignore=shutil.ignore_patterns("out"))
     shutil.copy(ROOT / "crates.txt", room)
-    for part in ("rlib", "obj", "stamp", "log", f"inc/{name}"):
-        if (ROOT / "target" / part).is_dir():
-            shutil.copytree(ROOT / "target" / part, room / "target" / part)
 
 
-def place(room, name, said):
+def place(said):
     """The place of the first error in what a check said, and whether a proof file only names what is not there any more."""
     error = re.search(r"^(\S+?): error(.*(?:\n  .*)*)", said, re.M)
     first = error or re.search(r"^note: (\S+:\d+:\d+):", said, re.M)
     if first is None:
         return ""
-    by_name = error is not None and re.search(r"^(.*: )?(module|record) `\S+`\s+has no |^  has no field", error[2], re.M)
-    return "first at " + first[1].removeprefix(f"{room}/crates/{name}/") + (", by a name" if by_name else "") + "; "
+    by_name = error is not None and re.search(r"\s(has no (field )?`|has no field|is not in scope)", error[2])
+    return "first at " + first[1].removeprefix("./") + (", by a name" if by_name else "") + "; "
 
 
 def checked(room, name):
     """Checks the crate: its verdict, and what the check said."""
-    done = subprocess.run([RT, "dev", name], cwd=room, stdout=subprocess.PIPE, stderr=subprocess.STDOUT, text=True)
+    folder = room / "crates" / name
+    done = subprocess.run([RT, "check"], cwd=folder, stdout=subprocess.PIPE, stderr=subprocess.STDOUT, text=True)
     if done.returncode == 0 and re.search(r"^logic=proved", done.stdout, re.M):
         return "proved", done.stdout
     if done.returncode == 1 and re.search(r"^logic=not-proved", done.stdout, re.M):
@@ -99,7 +97,7 @@ def tried(room, name, fault):
     file.write_text(text)
     took = f"{time.monotonic() - began:.0f} s"
     if verdict == "refused":
-        return f"refused ({place(room, name, said)}{took})", said
+        return f"refused ({place(said)}{took})", said
     if verdict == "proved":
         return f"SURVIVED ({took})", said
     return "BAD FAULT: it did not reach the prover", said
@@ -111,7 +109,7 @@ def main(names):
     for name in names:
         with tempfile.TemporaryDirectory() as folder:
             room = Path(folder)
-            copied(room, name)
+            copied(room)
             if checked(room, name)[0] != "proved":
                 print(f"{name}: it is not proved without a fault")
                 return 2

@@ -1,11 +1,10 @@
 #!/usr/bin/env bash
 # Two misuses of a reading must be turned away by the compiler: loading a reading whose head is not read, and loading a
-# reading a second time. A small program with each is compiled over the sources of the libraries, and the compiler has to
-# name the error there. The same program without a misuse has to compile, so that nothing else is the reason.
-# Nothing is proved here, and nothing is written but in a temporary folder.
+# reading a second time. A small program with each is compiled over a copy of the libraries' sources, by `rt try`, and the
+# compiler has to name the error there. The same program without a misuse has to compile and run, so that nothing else is the
+# reason. Nothing is proved here, and nothing is written but in a temporary folder.
 set -u
 cd "$(dirname "$0")/.." || exit 2
-kit=$(dirname "$(dirname "$(rt doc)")")
 
 # What the compiler calls the two errors.
 other_type='mismatched-types'
@@ -14,33 +13,28 @@ moved='borrow-e0382'
 room=$(mktemp -d) || exit 2
 trap 'rm -rf "$room"' EXIT
 
-# The libraries, of the toolchain and of this repository, as sources.
-libraries=()
-while IFS=: read -r name used; do
-    libraries+=(--lib "$name:$(echo $used | tr ' ' ,)=$kit/$name/src/lib.rt")
-done <"$kit/libs.txt"
-while IFS=: read -r name _; do
-    [ -f "crates/$name/src/lib.rt" ] && libraries+=(--lib "$name=crates/$name/src/lib.rt")
-done < <(grep -v '^#' crates.txt)
+# The sources and definitions of the libraries, and one crate more, which is the program.
+cp crates.txt "$room" && tar c crates/*/src crates/*/specs | tar x -C "$room" && mkdir -p "$room/crates/misuse/src" || exit 2
+echo 'misuse: algebra refusals kinds reading rack' >>"$room/crates.txt"
 
 # Compiles the program whose function `attempt` has the lines given, and keeps what is said in a log.
 compiled() { # LABEL LINE..
     log=$room/$1.log
     shift
     {
-        printf 'use %s;\n' algebra::node::Node 'kinds::note::{Note, NoteKind}' rack::rack::Rack reading::states::FreshReading refusals::refusal::Refusal
+        printf 'use %s;\n' algebra::node::Node kinds::note::Note rack::rack::Rack reading::states::FreshReading refusals::refusal::Refusal
         echo "fn attempt(rack: &mut Rack<'_, Note>, text: &[u8]) -> Result<(), Refusal> {"
         printf '    %s\n' "$@"
         echo '}'
         cat <<'MAIN'
-fn main() {
+fn main(_rt: HostRuntime) {
     let mut nodes: [Node<Note>; 1023] = [Node::Rest(0); 1023];
     let mut rack = Rack::new(&mut nodes);
     let _ = attempt(&mut rack, b"score=6\n");
 }
 MAIN
-    } >"$room/main.rt"
-    "$kit/bin/rattle-print-mir" "$room/main.rt" --crate-name misuse "${libraries[@]}" >/dev/null 2>"$log"
+    } >"$room/crates/misuse/src/main.rt"
+    (cd "$room/crates/misuse" && rt try) >"$log" 2>&1
 }
 
 failed=0
@@ -51,7 +45,7 @@ refused() { # LABEL ERROR LINE..
     if compiled "$label" "$@"; then
         echo "misuse $label: NOT REFUSED"
         failed=1
-    elif grep -m 1 ': error' "$log" | grep -q "main.rt:[0-9]*:[0-9]*: error\[$error\]"; then
+    elif grep -m 1 ': error' "$log" | grep -q "^src/main.rt:[0-9]*:[0-9]*: error\[$error\]"; then
         echo "misuse $label: refused, as it must be ($error)"
     else
         echo "misuse $label: refused for another reason than $error:"

@@ -56,7 +56,7 @@ fn list(rt: &HostRuntime, entries: &[Entry]) -> anyhow::Result<()> {
     for entry in entries {
         sorted.push(Listed::of(*entry))?;
     }
-    sorted.sort()?;
+    sorted.sort_unstable();
     for entry in &sorted {
         println!(rt;
             "  {} {} {},{},{},{}",

@@ -1,5 +1,5 @@
 -- The table of spans of a row: how many nodes the score that begins at each node has, and its length.
-use Rattle.std.specs.Prelude.{◌≡◌, ℕ, ◌+◌, ◌<◌, ◌≤◌, min, max, List, length, get_or, slice_index_or}
+use Rattle.std.specs.Prelude.{◌≡◌, ℕ, ◌+◌, ◌<◌, ◌≤◌, min, max, List, length, slice_index_or}
 use Rattle.algebra.specs.declared.numbers.Numbers.{Numbers}
 use Rattle.algebra.specs.declared.node.Node.{Node}
 use Rattle.algebra.specs.declared.node.Node.TheVariants.{Rest, Primitive, Sequence, Parallel}
@@ -24,13 +24,13 @@ Spanned K xs spans from = (i : ℕ) → from ≤ i → i < length xs → slice_i
 
 -- Where the right part of a pair at a node begins, by the table.
 abbrev pub right_of : List Span → ℕ → ℕ
-right_of spans at = at + 1 + (get_or spans (at + 1) no_span).nodes
+right_of spans at = at + 1 + (slice_index_or spans (at + 1) no_span).nodes
 
 -- A pair's parts have spans in the table, and are not too many nodes.
 pub record PartsInside (spans : List Span) (at : ℕ) : Type 0 where
   pub left : at + 1 < length spans
   pub right : right_of spans at < length spans
-  pub few : 1 + (get_or spans (at + 1) no_span).nodes + (get_or spans (right_of spans at) no_span).nodes ≤ 1023
+  pub few : 1 + (slice_index_or spans (at + 1) no_span).nodes + (slice_index_or spans (right_of spans at) no_span).nodes ≤ 1023
 
 abbrev pub Inside : List Span → ℕ → Node Numbers → Type 0
 Inside spans at (Rest d) = Unit {0}

@@ -9,13 +9,13 @@ use Rattle.nodes.specs.Rows.{Wrote}
 use Rattle.nodes.proofs.Writings.{wrote_as, wrote_pair}
 use Rattle.rewriting.specs.declared.join.Join.{Join}
 use Rattle.rewriting.specs.declared.join.Join.TheVariants.{Sequence, Parallel}
-use Rattle.rewriting.specs.Joins.{joinNode, join_of}
+use Rattle.rewriting.specs.Joins.{join_node, join_of}
 
-join-row : (join : Join) (a b : Score) → preorder (join_of join a b) ≡ joinNode join ∷ (preorder a ++ preorder b)
+join-row : (join : Join) (a b : Score) → preorder (join_of join a b) ≡ join_node join ∷ (preorder a ++ preorder b)
 join-row Sequence a b = refl
 join-row Parallel a b = refl
 
-join-seen : {P : Type 0} (f : P → Numbers) (join : Join) → seen f (joinNode join) ≡ joinNode join
+join-seen : {P : Type 0} (f : P → Numbers) (join : Join) → seen f (join_node join) ≡ join_node join
 join-seen f Sequence = refl
 join-seen f Parallel = refl
 
@@ -23,9 +23,9 @@ module _ (join : Join) (a b : Score) {s : Score} (is : s ≡ join_of join a b) w
   pub join_length : length (preorder s) ≡ 1 + length (preorder a) + length (preorder b)
   join_length = ap (λ t. length (preorder t)) is ∙ ap length (join-row join a b) ∙ omega (arith, length-append (preorder a) (preorder b))
 
-  pub wrote_join : {P : Type 0} (f : P → Numbers) (node : Node P) → node ≡ joinNode join → (xs xs₁ xs₂ xs₃ : List (Node Numbers)) (to begin middle end : ℕ) → to + length (preorder s) ≤ length xs
+  pub wrote_join : {P : Type 0} (f : P → Numbers) (node : Node P) → node ≡ join_node join → (xs xs₁ xs₂ xs₃ : List (Node Numbers)) (to begin middle end : ℕ) → to + length (preorder s) ≤ length xs
       → Wrote xs xs₁ to begin (seen f node ∷ []) → Wrote xs₁ xs₂ begin middle (preorder a) → Wrote xs₂ xs₃ middle end (preorder b) → Wrote xs xs₃ to end (preorder s)
   wrote_join f node e xs xs₁ xs₂ xs₃ to begin middle end fits first left right =
-      let row : preorder s ≡ joinNode join ∷ (preorder a ++ preorder b) = ap preorder is ∙ join-row join a b in
-      let top : seen f node ∷ [] ≡ joinNode join ∷ [] = ap (λ n. seen f n ∷ []) e ∙ ap (λ n. n ∷ []) (join-seen f join) in
-      wrote_as xs xs₃ to end (sym row) (wrote_pair xs xs₁ xs₂ xs₃ to begin middle end (joinNode join) (preorder a) (preorder b) (omega (arith, fits, ap length row)) (wrote_as xs xs₁ to begin top first) left right)
+      let row : preorder s ≡ join_node join ∷ (preorder a ++ preorder b) = ap preorder is ∙ join-row join a b in
+      let top : seen f node ∷ [] ≡ join_node join ∷ [] = ap (λ n. seen f n ∷ []) e ∙ ap (λ n. n ∷ []) (join-seen f join) in
+      wrote_as xs xs₃ to end (sym row) (wrote_pair xs xs₁ xs₂ xs₃ to begin middle end (join_node join) (preorder a) (preorder b) (omega (arith, fits, ap length row)) (wrote_as xs xs₁ to begin top first) left right)

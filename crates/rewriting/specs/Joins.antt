@@ -8,9 +8,9 @@ use Rattle.rewriting.specs.declared.join.Join.{Join}
 use Rattle.rewriting.specs.declared.join.Join.TheVariants.{Sequence, Parallel}
 
 -- The node of a join.
-abbrev pub joinNode : {P : Type 0} → Join → Node P
-joinNode Sequence = node.Sequence
-joinNode Parallel = node.Parallel
+abbrev pub join_node : {P : Type 0} → Join → Node P
+join_node Sequence = node.Sequence
+join_node Parallel = node.Parallel
 
 -- The join of two scores.
 abbrev pub join_of : Join → Score → Score → Score

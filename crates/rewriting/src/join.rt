@@ -1,6 +1,6 @@
 // Sequence and parallel, as a rule names them.
 ghost use Rattle.std.specs.Prelude.{◌≡◌};
-ghost use Rattle.rewriting.specs.Joins.{joinNode};
+ghost use Rattle.rewriting.specs.Joins.{join_node};
 
 use algebra::node::Node;
 
@@ -14,7 +14,7 @@ pub enum Join {
 impl Join {
     // The node of a join.
     pub fn node<K>(self) -> Node<K>
-        ensures { result ≡ joinNode self }
+        ensures { result ≡ join_node self }
     {
         match self {
             Join::Sequence => Node::Sequence,

@@ -35,7 +35,7 @@ fault() { # LABEL FILE OLD NEW [CRATE]
     if proved "$crate"; then
         echo "fault: $label: ACCEPTED"
         accepted+=("$label")
-    elif grep -q "specs/${2##*/}:.*: error" "$room/log" || ! grep -q '^logic=not-proved' "$room/log"; then
+    elif grep '/specs/.*: error' "$room/log" | grep -qv '/specs/\(Notes\|Clips\|Numbers\)\.antt' || ! grep -q '^logic=not-proved' "$room/log"; then
         echo "fault: $label: the definition is not well formed:"
         grep -m 5 'error' "$room/log"
         accepted+=("$label")

@@ -9,4 +9,5 @@ pub mod Cuts
 pub mod Rewrite
 pub mod Compare
 pub mod Limits
+pub mod Numbered
 pub mod Theorems

@@ -6,3 +6,10 @@ pub enum Node<P> {
     Sequence,
     Parallel,
 }
+
+// A rest of 0 ticks.
+impl<P> Default for Node<P> {
+    fn default() -> Node<P> {
+        Node::Rest(0)
+    }
+}

@@ -1,9 +1,9 @@
 -- The parts of a score that stands in a row stand there too, and have their spans.
-use Rattle.std.proofs.Common.{◌≡◌, ℕ, ◌+◌, ◌<◌, ◌≤◌, List, length, get_or, take, drop, refl, sym, ap, ◌∙◌, subst, add-zero, arith}
+use Rattle.std.proofs.Common.{◌≡◌, true, ℕ, ◌+◌, ◌<◌, ◌≤◌, List, length, get_or, take, drop, refl, sym, ap, ◌∙◌, subst, add-zero, arith}
 use Rattle.std.proofs.lemmas.List.{length-map, length-take, length-drop, take-map, drop-map, get_or-take, get_or-drop}
 use Rattle.algebra.specs.declared.numbers.Numbers.{Numbers}
 use Rattle.algebra.specs.declared.node.Node.{Node}
-use Rattle.algebra.specs.Kind.{KindModel}
+use Rattle.algebra.specs.Kind.{KindModel, LengthLaws}
 use Rattle.algebra.specs.Score.{Score, Score.sequence, Score.parallel, nodes, primitives}
 use Rattle.algebra.specs.Layout.{seen, view, preorder, score_at, score_of}
 use Rattle.nodes.specs.declared.span.Span.{Span}
@@ -13,6 +13,8 @@ use Rattle.nodes.specs.Joins.{joined}
 use Rattle.nodes.specs.Held.{bare, Held}
 use Rattle.nodes.specs.Spans.{no_span, span_of, Spanned}
 use Rattle.nodes.specs.Standing.{standing_score, Tabled, Standing}
+use Rattle.nodes.specs.Scores.{Limited}
+use Rattle.nodes.proofs.Lengths.{legal_row, length_held}
 use Rattle.nodes.proofs.Parts.{here, sequence_left, sequence_right, parallel_left, parallel_right, part_bare, part_primitives, length_preorder, find, score_place}
 use Rattle.nodes.proofs.Shapes.{score_preorder}
 use Rattle.nodes.proofs.Readings.{long, at, begins, ends_inside, nodes_there, deeper}
@@ -21,6 +23,18 @@ use Rattle.nodes.proofs.Tables.{nodes_listed}
 module _ (K : KindModel) {P : Type 0} (f : P → Numbers) (row : List (Node P)) (spans : List Span) (t : Tabled K f row spans) where
   pub nodes_long : length row ≡ nodes (standing_score f row)
   nodes_long = sym (length-map row (seen f)) ∙ long (view f row) t.held.whole
+
+  limited : LengthLaws K → ((x : P) → K.legal (f x) ≡ true) → Limited K (standing_score f row)
+  limited laws ok =
+      record {
+        legal = legal_row K laws f ok row;
+        small = omega (arith, nodes_long, length-map row (seen f), t.held.small);
+        few = t.held.few;
+        short = length_held K laws f ok row t.held;
+      }
+
+  pub limited_as : LengthLaws K → ((x : P) → K.legal (f x) ≡ true) → {s : Score} → standing_score f row ≡ s → Limited K s
+  limited_as laws ok e = subst (Limited K) e (limited laws ok)
 
   module _ (k : ℕ) (h : k < length row) where
     within : k < length (view f row)

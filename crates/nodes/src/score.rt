@@ -2,7 +2,7 @@
 ghost use Rattle.std.specs.Prelude.{◌≡◌, ◌+◌, ◌<◌, ◌≤◌};
 ghost use Rattle.algebra.specs.Layout.{view, preorder, score_at};
 ghost use Rattle.algebra.specs.Score.{nodes, score_length};
-ghost use Rattle.nodes.specs.Scores.{Shows, Parts};
+ghost use Rattle.nodes.specs.Scores.{Shows, Parts, Limited};
 
 use crate::join::Join;
 use crate::some::some_of;
@@ -45,7 +45,8 @@ pub enum Look<'a, K: Kind> {
 impl<'a, K: Kind> Score<'a, K> {
     // The length in ticks.
     pub fn length(&self) -> u32
-        ensures { result ≡ score_length K.Kind.model self.now }
+        ensures length { result ≡ score_length K.Kind.model self.now }
+        ensures limited { Limited K.Kind.model self.now }
     {
         self.spans[0].length
     }
@@ -60,14 +61,16 @@ impl<'a, K: Kind> Score<'a, K> {
 
     // The nodes.
     pub fn nodes(&self) -> &'a [Node<K>]
-        ensures { view K.Kind.numbers_of result.now ≡ preorder self.now }
+        ensures nodes { view K.Kind.numbers_of result.now ≡ preorder self.now }
+        ensures limited { Limited K.Kind.model self.now }
     {
         self.nodes
     }
 
     // What the score is.
     pub fn look(&self) -> Look<'a, K>
-        ensures { Shows K.Kind.numbers_of self.now result }
+        ensures is { Shows K.Kind.numbers_of self.now result }
+        ensures limited { Limited K.Kind.model self.now }
     {
         match self.nodes[0] {
             Node::Rest(ticks) => Look::Rest(ticks),

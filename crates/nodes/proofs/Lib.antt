@@ -7,3 +7,4 @@ pub mod Lengths
 pub mod Tables
 pub mod Joins
 pub mod Standings
+pub mod Lists

@@ -1,7 +1,7 @@
 -- Writes in a row, one after the other, and what they leave. Assumes nothing.
-use Rattle.std.proofs.Common.{◌≡◌, ℕ, suc, ◌+◌, ◌-◌, ◌<◌, ◌≤◌, List, [], ◌∷◌, ◌++◌, length, take, drop, set, sym, refl, ap, ◌∙◌, arith}
+use Rattle.std.proofs.Common.{◌≡◌, ℕ, suc, ◌+◌, ◌-◌, ◌<◌, ◌≤◌, List, [], ◌∷◌, ◌++◌, map, length, take, drop, set, sym, refl, ap, ◌∙◌, arith}
 use lib.Seq.{paste}
-use Rattle.std.proofs.lemmas.List.{append_assoc, length-append, length-take-le, length-drop, drop-take, take-take, take_at, drop_at, drop-drop, set_split, length-set, take-append-drop}
+use Rattle.std.proofs.lemmas.List.{append_assoc, map-append, length-map, take-map, drop-map, length-append, length-take-le, length-drop, drop-take, take-take, take_at, drop_at, drop-drop, set_split, length-set, take-append-drop}
 use Rattle.nodes.specs.Rows.{overlaid}
 
 module _ {X : Type 0} where
@@ -69,3 +69,9 @@ module _ {X : Type 0} where
   overlaid_paste xs at s n h =
       let long : n ≡ length (take n s) = sym (length-take-le n s h) in
       append_assoc (take at xs) (take n s) (drop (at + n) xs) ∙ ap (λ k. take at xs ++ (take n s ++ drop (at + k) xs)) long
+
+-- the same of what stands there in other terms
+pub overlaid-map : {X Y : Type 0} (f : X → Y) (xs : List X) (at : ℕ) (ys : List X) → map f (overlaid xs at ys) ≡ overlaid (map f xs) at (map f ys)
+overlaid-map f xs at ys =
+    map-append f (take at xs) (ys ++ drop (at + length ys) xs) ∙ ap (λ l. l ++ map f (ys ++ drop (at + length ys) xs)) (sym (take-map f at xs))
+    ∙ ap (λ l. take at (map f xs) ++ l) (map-append f ys (drop (at + length ys) xs) ∙ (λ i. map f ys ++ (sym (drop-map f (at + length ys) xs) ∙ ap (λ n. drop (at + n) (map f xs)) (sym (length-map ys f))) i))

@@ -1,0 +1,79 @@
+-- What a rack's places hold, by its nodes and its notes.
+use Rattle.std.proofs.Common.{◌≡◌, ℕ, zero, suc, ◌+◌, ◌*◌, ◌/◌, ◌<◌, ◌≤◌, min, cond, not, List, [], ◌∷◌, map, length, get_or, take, drop, replicate, is_some, Some, None, Ok, Err, Option, sym, refl, ap, ◌∙◌, subst, ⊎_elim, arith}
+use Rattle.std.specs.List.{range_with_len}
+use Rattle.std.proofs.lemmas.List.FromFn.{length-map-range_with_len, get_or-map-range_with_len}
+use Rattle.std.proofs.lemmas.Bool.{cases_lt}
+use Rattle.std.proofs.lemmas.Bool.Decides.{nat_tests}
+use Rattle.std.proofs.lemmas.List.{length-map, take-map, drop-map}
+use Rattle.algebra.specs.declared.numbers.Numbers.{Numbers}
+use Rattle.algebra.specs.declared.node.Node.{Node}
+use Rattle.algebra.specs.Kind.{KindModel}
+use Rattle.algebra.specs.Score.{Score}
+use Rattle.algebra.specs.Layout.{seen, view, score_of}
+use Rattle.nodes.proofs.Shapes.{score_preorder}
+use Rattle.refusals.specs.declared.refusal.Refusal.TheVariants.{NoSuchPlace, EmptyPlace, FullPlace}
+use Rattle.refusals.specs.Checks.{passed, unless}
+use Rattle.racktrial.specs.declared.place.Place.{Place}
+use Rattle.racktrial.specs.Places.{Shelf, number, used, place_at, held_at, shelf, Noted, Sound}
+use Rattle.racktrial.specs.Checks.{at, known, holding, vacant}
+
+-- the segment of a place lies within the nodes
+pub segment_within : {X : Type 0} (ns : List X) (p : ℕ) → p < number ns → p * 1023 + 1023 ≤ length ns
+segment_within ns p h = omega (arith, div_within (length ns))
+  where
+    div_within : (n : ℕ) → n / 1023 * 1023 ≤ n
+    div_within n = omega arith
+
+-- what the checks say of a place, by what it holds
+module _ (held : Shelf) (p : ℕ) where
+  pub holding_no : at held p ≡ None → holding held p ≡ Err (EmptyPlace p)
+  holding_no e = ap (λ o. unless (is_some o) (EmptyPlace p)) e
+
+  pub holding_yes : (s : Score) → at held p ≡ Some s → holding held p ≡ passed
+  holding_yes s e = ap (λ o. unless (is_some o) (EmptyPlace p)) e
+
+  pub vacant_yes : at held p ≡ None → vacant held p ≡ passed
+  vacant_yes e = ap (λ o. unless (not (is_some o)) (FullPlace p)) e
+
+  pub vacant_no : (s : Score) → at held p ≡ Some s → vacant held p ≡ Err (FullPlace p)
+  vacant_no s e = ap (λ o. unless (not (is_some o)) (FullPlace p)) e
+
+past_end : {X : Type 0} (xs : List X) (p : ℕ) (d : X) → length xs ≤ p → get_or xs p d ≡ d
+past_end [] p d h = refl
+past_end (x ∷ xs) zero d h = absurd (omega arith)
+past_end (x ∷ xs) (suc p) d h = past_end xs p d (omega arith)
+
+module _ {P : Type 0} (f : P → Numbers) (ns : List (Node P)) (places : List (Option Place)) where
+  pub length_shelf : length (shelf f ns places) ≡ number ns
+  length_shelf = length-map-range_with_len (λ p. held_at (view f ns) p (place_at places p)) 0 (number ns)
+
+  pub at_any : (p : ℕ) (d : Option Score) → p < number ns → get_or (shelf f ns places) p d ≡ held_at (view f ns) p (place_at places p)
+  at_any p d h = get_or-map-range_with_len (λ p. held_at (view f ns) p (place_at places p)) 0 (number ns) p p d h (omega arith)
+
+  -- nothing is held where nothing is noted
+  pub at_empty : (p : ℕ) → place_at places p ≡ None → at (shelf f ns places) p ≡ None
+  at_empty p e = ⊎_elim
+      (λ h. at_any p None h ∙ ap (held_at (view f ns) p) e)
+      (λ h. past_end (shelf f ns places) p None (omega (arith, length_shelf)))
+      (cases_lt p (number ns))
+
+  -- a score is held where one is noted
+  pub at_full : (K : KindModel) (p : ℕ) (place : Place) → place_at places p ≡ Some place → (n : Noted K f ns p place) → at (shelf f ns places) p ≡ Some n.score
+  at_full K p place e n = at_any p None n.there ∙ ap (held_at (view f ns) p) e ∙ ap (λ xs. Some (score_of xs)) n.stands ∙ ap Some (score_preorder n.score)
+
+-- a rack at its start
+none_noted : (n p : ℕ) → place_at (replicate n None) p ≡ None
+none_noted zero p = refl
+none_noted (suc n) zero = refl
+none_noted (suc n) (suc p) = none_noted n p
+
+all_none : {X : Type 0} (g : ℕ → Option X) → ((p : ℕ) → g p ≡ None) → (a n : ℕ) → map g (range_with_len a n) ≡ replicate n None
+all_none g none a zero = refl
+all_none g none a (suc n) = ap (λ o. o ∷ map g (range_with_len (a + 1) n)) (none a) ∙ ap (λ os. None ∷ os) (all_none g none (a + 1) n)
+
+pub shelf_start : {P : Type 0} (f : P → Numbers) (ns : List (Node P)) → shelf f ns (replicate 8 None) ≡ replicate (number ns) None
+shelf_start f ns = all_none _ (λ p. ap (held_at (view f ns) p) (none_noted 8 p)) 0 (number ns)
+
+-- the nodes of a place's segment that code lends
+pub lent_used : {P : Type 0} (f : P → Numbers) (ns : List (Node P)) (p n : ℕ) {row : List (Node P)} → row ≡ take n (drop (p * 1023) ns) → view f row ≡ used (view f ns) p n
+lent_used f ns p n e = ap (view f) e ∙ sym (take-map (seen f) n (drop (p * 1023) ns)) ∙ ap (take n) (sym (drop-map (seen f) (p * 1023) ns))

@@ -1,5 +1,5 @@
 -- What comparing two places answers.
-use Rattle.std.specs.Prelude.{◌≡◌, ℕ, ◌<◌, ◌≤◌, ◌↔◌, List, [], ◌∷◌, Ok, Result}
+use Rattle.std.specs.Prelude.{◌≡◌, ℕ, ◌≤◌, ◌↔◌, List, [], ◌∷◌, Ok, Result}
 use Rattle.algebra.specs.Kind.{KindModel}
 use Rattle.algebra.specs.Score.{Score, score_length}
 use Rattle.algebra.specs.Rules.{Chain}
@@ -10,21 +10,12 @@ use Rattle.comparing.specs.declared.comparison.Comparison.{Comparison}
 use Rattle.comparing.specs.Comparisons.{meant, said}
 use Rattle.normal_file.specs.Bytes.{normal_bytes}
 use Rattle.writing.specs.Writes.{written_answer}
-use Rattle.rack.specs.declared.rack.Rack.{Rack}
-use Rattle.rack.specs.Places.{number, place_at}
 use Rattle.rack.specs.Shelves.{Shelf, score_held}
 use Rattle.rack.specs.Checks.{known, holding}
 
 -- Two places that hold scores: 21 for the first and the second, 22 for the first and the second.
 abbrev pub both_holding : Shelf → ℕ → ℕ → Check
 both_holding shelf a b = all (known shelf a ∷ known shelf b ∷ holding shelf a ∷ holding shelf b ∷ [])
-
--- Two places of the rack hold scores.
-pub record BothHeld {K : Type 0} {g : _} (rack : Rack K g) (a b : ℕ) : Type 0 where
-  pub first_known : a < number rack.row.nodes.now
-  pub second_known : b < number rack.row.nodes.now
-  pub first_held : 0 < (place_at rack.places a).nodes
-  pub second_held : 0 < (place_at rack.places b).nodes
 
 -- Compare: 21, 22, and else what the algebra answers of the two scores.
 abbrev pub compare_answer : KindModel → Shelf → ℕ → ℕ → Result Comparison Refusal

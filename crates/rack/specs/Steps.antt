@@ -1,5 +1,5 @@
 -- What rewriting answers.
-use Rattle.std.specs.Prelude.{ℕ, ◌<◌, List, [], ◌∷◌, ◌++◌, is_some, Option, nat_lt}
+use Rattle.std.specs.Prelude.{ℕ, List, [], ◌∷◌, ◌++◌, is_some, Option, nat_lt}
 use Rattle.algebra.specs.Kind.{KindModel}
 use Rattle.algebra.specs.Score.{Score, nodes}
 use Rattle.refusals.specs.declared.refusal.Refusal.TheVariants.{NoSuchNode, NoFit}
@@ -8,8 +8,6 @@ use Rattle.building.specs.declared.step.Step.{Step}
 use Rattle.building.specs.Sizes.{limits}
 use Rattle.building.specs.Steps.{step_named, step_checks, stepped}
 use Rattle.building.specs.Rows.{score_in}
-use Rattle.rack.specs.declared.rack.Rack.{Rack}
-use Rattle.rack.specs.Places.{number, place_at}
 use Rattle.rack.specs.Shelves.{Shelf, score_held}
 use Rattle.rack.specs.Checks.{known, holding}
 
@@ -22,12 +20,6 @@ abbrev pub rewritable : Shelf → ℕ → ℕ → List Check
 rewritable shelf place node =
     let count = nodes (score_held shelf place) in
     known shelf place ∷ holding shelf place ∷ unless (nat_lt node count) (NoSuchNode count) ∷ []
-
--- The place holds a score that has the node.
-pub record Rewritable {K : Type 0} {g : _} (rack : Rack K g) (place node : ℕ) : Type 0 where
-  pub known : place < number rack.row.nodes.now
-  pub held : 0 < (place_at rack.places place).nodes
-  pub there : node < (place_at rack.places place).nodes
 
 -- The result of a step, if it fits: 25 with the node, 26 and 27.
 abbrev pub steppable : KindModel → ℕ → Option Score → List Check

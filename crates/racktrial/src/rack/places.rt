@@ -2,11 +2,11 @@
 ghost use Rattle.std.specs.Prelude.{◌≡◌, ◌+◌, ◌<◌, ◌≤◌, length, replicate, slice_set, Some, None, OnOk, IfOk};
 ghost use Rattle.algebra.specs.Score.{Score};
 ghost use Rattle.algebra.specs.Layout.{preorder};
-ghost use Rattle.algebra.specs.Limits.{Holdable};
+ghost use Rattle.algebra.specs.Limits.{Holdable, Fits};
 ghost use Rattle.nodes.specs.Rows.{overlaid};
 ghost use Rattle.racktrial.specs.Places.{number, place_at, Counts};
-ghost use Rattle.racktrial.specs.Checks.{known, holding, vacant};
-ghost use Rattle.racktrial.specs.Standing.{held_check, HeldAt};
+ghost use Rattle.racktrial.specs.Checks.{at, known, holding, vacant};
+ghost use Rattle.racktrial.specs.Standing.{held_check};
 
 use crate::place::Place;
 use crate::rack::Rack;
@@ -18,11 +18,13 @@ use nodes::measured::Measured;
 use nodes::some::some_of;
 use refusals::refusal::Refusal;
 
-// The score at a place, and what is noted of it.
+// A score that a place holds, with what is noted of it.
 #[derive(Drop)]
 pub(crate) struct Held<'a, K: Kind> {
     pub score: Measured<'a, K>,
     pub noted: Place,
+    ghost counts: { Counts noted score },
+    ghost fits: { Fits K.Kind.model score },
 }
 
 impl<'a, K: Kind> Rack<'a, K> {
@@ -67,7 +69,7 @@ impl<'a, K: Kind> Rack<'a, K> {
     // The score at a place; refuses a place that holds none.
     pub(crate) fn held(&self, place: u32) -> Result<Held<'_, K>, Refusal>
         ensures answer { held_check result ≡ holding self.now place }
-        ensures held { IfOk result (λ h. HeldAt K.Kind.model self.now place h.score h.noted) }
+        ensures held { IfOk result (λ h. at self.now place ≡ Some h.score) }
     {
         let Some(noted) = note_at(&self.places, place) else {
             return Err(Refusal::EmptyPlace(place));

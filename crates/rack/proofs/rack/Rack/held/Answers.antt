@@ -1,0 +1,44 @@
+use Rattle.std.proofs.Common.{◌≡◌, ◌∷◌, Some, length, sym, ap, ◌∙◌, subst, arith}
+use Rattle.algebra.specs.Layout.{score_of}
+use Rattle.nodes.proofs.Shapes.{score_preorder}
+use Rattle.nodes.proofs.Standings.{holdable_stands}
+use Rattle.rack.specs.Shelves.{at}
+use Rattle.rack.proofs.Shelves.{segment_within, at_empty, at_full, holding_yes, holding_no, lent_used}
+use Rattle.rack.proofs.rack.Rack.held.Goals as goal
+
+pub returns-in_default-clause-answer : goal.returns-in_default-clause-answer
+returns-in_default-clause-answer g c =
+    let p = c.args.place in
+    sym (holding_no c.args.self.now p (ap (λ l. at l p) (sym c.self.view_is) ∙ at_empty g.K.Kind.numbers_of c.self.inside.nodes.now c.self.inside.places p (sym c.note_at.ensures ∙ c.in_default.is)))
+
+pub some_of-nodes-requires : goal.some_of-nodes-requires
+some_of-nodes-requires g c =
+    let n = c.self.invariant.true c.args.place c.in-Some.noted (sym c.note_at.ensures ∙ c.in-Some.is) in
+    omega (arith, segment_within c.self.inside.nodes.now c.args.place n.there, n.counts.nodes_are, n.holdable.fits.few_nodes)
+
+pub of-requires : goal.of-requires
+of-requires g c =
+    let f = g.K.Kind.numbers_of in
+    let n = c.self.invariant.true c.args.place c.in-Some.noted (sym c.note_at.ensures ∙ c.in-Some.is) in
+    holdable_stands g.K.Kind.model f c.some_of-nodes.result.now n.score (lent_used f c.self.inside.nodes.now c.args.place c.in-Some.noted.nodes c.some_of-nodes.ensures ∙ n.stands) n.holdable
+
+pub returns-clause-answer : goal.returns-clause-answer
+returns-clause-answer g c =
+    let p = c.args.place in
+    let noted = sym c.note_at.ensures ∙ c.in-Some.is in
+    let n = c.self.invariant.true p c.in-Some.noted noted in
+    sym (holding_yes c.args.self.now p n.score (ap (λ l. at l p) (sym c.self.view_is) ∙ at_full g.K.Kind.numbers_of c.self.inside.nodes.now c.self.inside.places g.K.Kind.model p c.in-Some.noted noted n))
+
+pub returns-clause-held : goal.returns-clause-held
+returns-clause-held g c =
+    let f = g.K.Kind.numbers_of in
+    let p = c.args.place in
+    let noted = sym c.note_at.ensures ∙ c.in-Some.is in
+    let n = c.self.invariant.true p c.in-Some.noted noted in
+    let row = lent_used f c.self.inside.nodes.now p c.in-Some.noted.nodes c.some_of-nodes.ensures ∙ n.stands in
+    let is = c.of.ensures ∙ ap score_of row ∙ score_preorder n.score in
+    rw is (record {
+      here = ap (λ l. at l p) (sym c.self.view_is) ∙ at_full f c.self.inside.nodes.now c.self.inside.places g.K.Kind.model p c.in-Some.noted noted n;
+      counts = n.counts;
+      holdable = n.holdable;
+    })

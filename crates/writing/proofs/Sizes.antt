@@ -1,0 +1,19 @@
+-- How many bytes the file of a score has.
+use Rattle.std.proofs.Common.{◌^◌, ◌<◌, ◌≤◌, length, arith}
+use Rattle.algebra.specs.Kind.{KindModel, KindLaws}
+use Rattle.algebra.specs.Score.{Score, Score.rest, Score.primitive, Score.sequence, Score.parallel, Legal, score_length}
+use Rattle.grammar.specs.Loads.{file_of, file_bytes}
+use Rattle.grammar.proofs.Sizes.{Narrow, length_file}
+use Rattle.nodes.specs.Standing.{Limited}
+
+module _ (K : KindModel) (laws : KindLaws K) where
+  -- no rest is longer than the score
+  narrow_score : (s : Score) → Legal K s → score_length K s < 10 ^ 8 → Narrow s
+  narrow_score (rest d) l h = h
+  narrow_score (primitive p) l h = laws.words p l
+  narrow_score (sequence a b) l h = (narrow_score a l.0 (omega arith), narrow_score b l.1 (omega arith))
+  narrow_score (parallel a b) l h = (narrow_score a l.0 (omega arith), narrow_score b l.1 (omega arith))
+
+  -- a score that keeps to the limits has a small file
+  pub length_bytes : (s : Score) → Limited K s → length (file_bytes K s) ≤ 16384
+  length_bytes s l = length_file (file_of K s) laws.named.short (omega (arith, l.short)) l.few (narrow_score s l.legal (omega (arith, l.short))) l.small l.few

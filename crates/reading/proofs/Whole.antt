@@ -11,7 +11,6 @@ use Rattle.algebra.specs.Score.{Score, Score.rest}
 use Rattle.grammar.specs.Files.{line, print, Grammatical, signature, ending, print_head, File, GrammaticalHead, IsFile, FirstMisfit, body_offset}
 use Rattle.grammar.specs.Refusals.{Headed, HeadRefused, unsigned, unheaded, Refused, other_kind, misfit}
 use Rattle.grammar.specs.declared.draft.Draft.{Draft}
-use Rattle.grammar.specs.Drafts.{drafted}
 use Rattle.grammar.specs.Items.{items}
 use Rattle.grammar.specs.Described.{ReadAs}
 use Rattle.reading.specs.declared.reader.Reader.{Reader}
@@ -221,7 +220,7 @@ module _ (text : List ℕ) (h : lines.Lines) (taken : LinesTaken text h) where
   tail_refused kind same e f =
       subst (Refused kind text) (sym f.is) (misfit f.offset taken.small headed same (file_misfit text f.offset (then_stopped (follows_any _) taken.passed f.stopped)))
 
-  pub read_as : (kind : List ℕ) → h.kind.bytes.now ≡ kind → (d d' : Draft) → drafted d ≡ [] → BodyTaken text h.end d d' → ReadAs kind text (record { ticks = h.ticks; count = h.count }) (drafted d')
+  pub read_as : (kind : List ℕ) → h.kind.bytes.now ≡ kind → (d d' : Draft) → d ≡ [] → BodyTaken text h.end d d' → ReadAs kind text (record { ticks = h.ticks; count = h.count }) d'
   read_as kind same d d' empty body =
       let f : File = record { kind = h.kind.bytes.now; ticks = h.ticks.value; count = h.count.value; body = body.term } in
       let head = print_head h.kind.bytes.now h.ticks.value h.count.value in

@@ -1,7 +1,6 @@
 // The states of a reading: fresh, and headed.
 ghost use Rattle.std.specs.Prelude.{◌≡◌, MatchResult};
 ghost use Rattle.grammar.specs.Described.{ReadAs};
-ghost use Rattle.grammar.specs.Drafts.{drafted};
 ghost use Rattle.grammar.specs.Refusals.{HeadRefused, Refused};
 ghost use Rattle.reading.specs.Readings.{HeadedAs};
 
@@ -58,7 +57,7 @@ impl<'a> HeadedReading<'a> {
 
     // Reads the whole text as a file of a kind: the two numbers of its head, and the nodes of its term in the draft.
     pub fn read(self, kind: &[u8], draft: &mut Draft) -> Result<Head, Refusal>
-        ensures { MatchResult result (λ head. ReadAs kind.now self.entry.text.now head (drafted draft.new)) (λ e. Refused kind.now self.entry.text.now e) }
+        ensures { MatchResult result (λ head. ReadAs kind.now self.entry.text.now head draft.new) (λ e. Refused kind.now self.entry.text.now e) }
     {
         let lines = Lines::read(self.text)?;
         if lines.kind.bytes != kind {

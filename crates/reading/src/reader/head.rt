@@ -3,10 +3,11 @@ ghost use Rattle.std.specs.Result.{MatchResult};
 ghost use Rattle.grammar.specs.Refusals.{HeadRefused};
 ghost use Rattle.reading.specs.Heads.{LinesTaken};
 
-use crate::reader::{LONGEST, MOST_BYTES, MOST_PRIMITIVES, Reader};
+use crate::reader::Reader;
 use crate::word::Lexeme;
+use algebra::limits::{LONGEST, MOST_PRIMITIVES};
 use grammar::head::Figure;
-use grammar::lines::{COUNT, LENGTH, SIGNATURE};
+use grammar::lines::{COUNT, LENGTH, MOST_BYTES, SIGNATURE};
 use refusals::refusal::{Refusal, Section};
 
 // What the lines before the body say, and where the body begins.
@@ -35,7 +36,7 @@ impl<'a> Lines<'a> {
         reader.section = Section::Head;
         let kind = reader.kind_line()?;
         let ticks = reader.number_line(LENGTH, LONGEST)?;
-        let count = reader.number_line(COUNT, MOST_PRIMITIVES)?;
+        let count = reader.number_line(COUNT, MOST_PRIMITIVES as u32)?;
         Ok(Lines {
             kind,
             ticks,

@@ -2,7 +2,7 @@ use Rattle.std.proofs.Common.{◌++◌, take, sym, ap, ◌∙◌, subst, arith}
 use Rattle.std.proofs.lemmas.Result.{MatchResult-weaker}
 use Rattle.algebra.specs.Score.{Score.rest, Score.primitive}
 use Rattle.grammar.specs.Items.{items}
-use Rattle.grammar.specs.Drafts.{drafted, with_node}
+use Rattle.grammar.specs.Drafts.{with_node}
 use Rattle.reading.specs.Languages.{Body}
 use Rattle.reading.specs.Passing.{NoDigit, Over}
 use Rattle.reading.proofs.Composition.{refused_up}
@@ -33,7 +33,7 @@ pair-returns-in_err-mark t c =
 pub pair-returns : goal.pair-returns
 pair-returns t c =
     pair_taken c.args.draft.now c.args.offset c.requires c.in_ok-term.ensures c.in_ok-term-2.ensures (only_mark c.in_ok-mark.ensures) c.push.ensures
-    c.in_ok-node.node (c.set_node.ensures ∙ ap (λ n. with_node (drafted c.term.new.draft) n c.in_ok-node.node) c.len-at.ensures) c.in_ok-node.ensures
+    c.in_ok-node.node (c.set_node.ensures ∙ ap (λ n. with_node c.term.new.draft n c.in_ok-node.node) c.len-at.ensures.count) c.in_ok-node.ensures
 
 pub term-returns-in_err-mark : goal.term-returns-in_err-mark
 term-returns-in_err-mark t c =
@@ -65,7 +65,7 @@ term-returns-in-40 t c =
       term = h.term;
       grammatical = h.grammatical;
       over = subst (λ w. Over Body NoDigit w c.args.self.now c.pair.new.self) (sym h.printed) (pair_over told.taken.over here h.over);
-      drafted = h.drafted ∙ ap (λ o. take 1024 (drafted c.args.draft.now ++ items o h.term)) offset;
+      drafted = h.drafted ∙ ap (λ o. take 1024 (c.args.draft.now ++ items o h.term)) offset;
     })
     (λ e h. pair_fault told.taken.over here h)
 
@@ -80,7 +80,7 @@ term-returns-in_ok-rest-in-114 t c =
       term = rest d;
       grammatical = number.small;
       over = rest_over told.taken.over (sym byte ∙ c.in-114.is) d number.over;
-      drafted = c.push.ensures ∙ ap (λ o. take 1024 (drafted c.args.draft.now ++ items o (rest d))) offset;
+      drafted = c.push.ensures ∙ ap (λ o. take 1024 (c.args.draft.now ++ items o (rest d))) offset;
     }
 
 pub term-returns-in_ok-numbers-in_default : goal.term-returns-in_ok-numbers-in_default
@@ -95,5 +95,5 @@ term-returns-in_ok-numbers-in_default t c =
       term = primitive p;
       grammatical = numbers.words;
       over = primitive_over told.taken.over here p numbers.over;
-      drafted = c.push-in_default.ensures ∙ ap (λ o. take 1024 (drafted c.args.draft.now ++ items o (primitive p))) offset;
+      drafted = c.push-in_default.ensures ∙ ap (λ o. take 1024 (c.args.draft.now ++ items o (primitive p))) offset;
     }

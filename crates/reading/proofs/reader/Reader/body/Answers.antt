@@ -1,7 +1,6 @@
 use Rattle.std.proofs.Common.{◌++◌, take, ap, ◌∙◌}
 use Rattle.std.proofs.lemmas.Result.{MatchResult-weaker}
 use Rattle.grammar.specs.Items.{items}
-use Rattle.grammar.specs.Drafts.{drafted}
 use Rattle.reading.proofs.Composition.{refused_up}
 use Rattle.reading.proofs.Whole.{tail_1, tail_2, tail_3, tail_4, tail_split}
 use Rattle.reading.proofs.reader.Reader.body.Goals as goal
@@ -29,6 +28,6 @@ returns c =
       term = term.term;
       grammatical = term.grammatical;
       split = tail_split key term.over ending h;
-      drafted = term.drafted ∙ ap (λ n. take 1024 (drafted c.args.draft.now ++ items n term.term)) key.passed.moved;
+      drafted = term.drafted ∙ ap (λ n. take 1024 (c.args.draft.now ++ items n term.term)) key.passed.moved;
     })
     (λ e h. tail_4 key term.over ending h)

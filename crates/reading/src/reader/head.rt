@@ -6,7 +6,7 @@ ghost use Rattle.reading.specs.Heads.{LinesTaken};
 use crate::reader::Reader;
 use crate::word::Lexeme;
 use algebra::limits::{LONGEST, MOST_PRIMITIVES};
-use grammar::head::Figure;
+use grammar::head::Head;
 use grammar::lines::{COUNT, LENGTH, MOST_BYTES, SIGNATURE};
 use refusals::refusal::{Refusal, Section};
 
@@ -14,8 +14,7 @@ use refusals::refusal::{Refusal, Section};
 #[derive(Clone, Copy)]
 pub struct Lines<'a> {
     pub kind: Lexeme<'a>,
-    pub ticks: Figure,
-    pub count: Figure,
+    pub head: Head,
     pub end: usize,
 }
 
@@ -39,8 +38,7 @@ impl<'a> Lines<'a> {
         let count = reader.number_line(COUNT, MOST_PRIMITIVES as u32)?;
         Ok(Lines {
             kind,
-            ticks,
-            count,
+            head: Head { ticks, count },
             end: reader.at,
         })
     }

@@ -1,4 +1,3 @@
 pub mod Sizes
-pub mod Changes
-pub mod Steps
 pub mod Rows
+pub mod Making

@@ -75,3 +75,9 @@ pub overlaid-map : {X Y : Type 0} (f : X → Y) (xs : List X) (at : ℕ) (ys : L
 overlaid-map f xs at ys =
     map-append f (take at xs) (ys ++ drop (at + length ys) xs) ∙ ap (λ l. l ++ map f (ys ++ drop (at + length ys) xs)) (sym (take-map f at xs))
     ∙ ap (λ l. take at (map f xs) ++ l) (map-append f ys (drop (at + length ys) xs) ∙ (λ i. map f ys ++ (sym (drop-map f (at + length ys) xs) ∙ ap (λ n. drop (at + n) (map f xs)) (sym (length-map ys f))) i))
+
+-- the front of a row, as far as what is written over it
+pub overlaid_front : {X : Type 0} (xs : List X) (at : ℕ) (ys : List X) → at ≤ length xs → take (at + length ys) (overlaid xs at ys) ≡ take at xs ++ ys
+overlaid_front xs at ys h =
+    ap (take (at + length ys)) (sym (append_assoc (take at xs) ys (drop (at + length ys) xs)))
+    ∙ take_at (take at xs ++ ys) (drop (at + length ys) xs) (at + length ys) (length-append (take at xs) ys ∙ ap (λ n. n + length ys) (length-take-le at xs h))

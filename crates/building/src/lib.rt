@@ -1,5 +1,4 @@
 // Scores made from others, within the limits of a place.
 #![tactic(auto)]
 
-pub mod made;
 pub mod size;

@@ -3,3 +3,4 @@ pub mod Placing
 pub mod Loading
 pub mod Writing
 pub mod Joining
+pub mod Room

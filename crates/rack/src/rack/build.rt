@@ -1,17 +1,17 @@
 // The calls that put a new score at an empty place.
-ghost use Rattle.std.specs.Prelude.{◌≡◌, ◌<◌, ◌≤◌, length, Some, slice_set};
+ghost use Rattle.std.specs.Prelude.{◌≡◌, ◌<◌, ◌≤◌, [], length, Some, slice_set, OnOk};
 ghost use Rattle.algebra.specs.Score.{Score.rest};
+ghost use Rattle.algebra.specs.Layout.{preorder};
 ghost use Rattle.nodes.specs.Joins.{joined};
-ghost use Rattle.building.specs.Making.{Makes};
+ghost use Rattle.building.specs.Sizes.{sized};
 ghost use Rattle.rack.specs.Calls.{put};
 ghost use Rattle.rack.specs.Building.{rest_answer, joined_at, join_answer};
 
 use crate::place::Place;
 use crate::rack::Rack;
 use crate::rack::places::Held;
-use algebra::limits::LONGEST;
+use algebra::limits::{LONGEST, MOST_NODES};
 use algebra::node::Node;
-use building::made::Made;
 use building::size::{Size, limits};
 use kinds::kind::Kind;
 use nodes::join::Join;
@@ -39,7 +39,9 @@ impl<'a, K: Kind> Rack<'a, K> {
         requires short { ticks ≤ 16777215 }
         ensures { self.new ≡ slice_set self.old to (Some (rest ticks)) }
     {
-        let mut nodes = NodeList::new();
+        let _ = &self.nodes;
+        let mut room = [Node::Rest(0); MOST_NODES];
+        let mut nodes = NodeList::over(&mut room);
         nodes.push(Node::Rest(ticks));
         let noted = Place {
             nodes: 1,
@@ -75,19 +77,25 @@ impl<'a, K: Kind> Rack<'a, K> {
         let left = self.held(first)?;
         let right = self.held(second)?;
         self.vacant(to)?;
-        let made = join_held(join, &left, &right)?;
-        self.put(to, &made.nodes, made.size.into());
+        let _ = &self.nodes;
+        let mut room = [Node::Rest(0); MOST_NODES];
+        let mut nodes = NodeList::over(&mut room);
+        let size = join_into(join, &left, &right, &mut nodes)?;
+        self.put(to, &nodes, size.into());
         Ok(())
     }
 }
 
-// Two held scores together, where they are within the limits.
-fn join_held<K: Kind>(
+// Puts the nodes of two held scores together behind those of a list that has none, where there is room for the result, and returns its size.
+fn join_into<K: Kind>(
     join: Join,
     left: &Held<'_, K>,
     right: &Held<'_, K>,
-) -> Result<Made<K>, Refusal>
-    ensures { Makes K.Kind.model (joined join left.now.score right.now.score) result }
+    out: &mut NodeList<'_, K>,
+) -> Result<Size, Refusal>
+    requires { out.old ≡ [] }
+    ensures answer { result ≡ sized K.Kind.model (joined join left.now.score right.now.score) }
+    ensures nodes { OnOk result (out.new ≡ preorder (joined join left.now.score right.now.score)) }
 {
     let (first, second) = (left.score.score(), right.score.score());
     let size = Size {
@@ -96,9 +104,8 @@ fn join_held<K: Kind>(
         length: join.length(first.length(), second.length()),
     };
     limits(size)?;
-    let mut nodes = NodeList::new();
-    nodes.push(join.node());
-    nodes.push_score(&first);
-    nodes.push_score(&second);
-    Ok(Made { nodes, size })
+    out.push(join.node());
+    out.push_score(&first);
+    out.push_score(&second);
+    Ok(size)
 }

@@ -71,7 +71,7 @@ impl<'a, K: Kind> Rack<'a, K> {
     }
 
     // Puts a score that may be held at a place of the rack.
-    pub(crate) fn put(&mut self, to: u32, nodes: &NodeList<K>, noted: Place)
+    pub(crate) fn put(&mut self, to: u32, nodes: &NodeList<'_, K>, noted: Place)
         requires known { to < length self.old }
         requires holdable { (s : Score) × (nodes.now ≡ preorder s) × Counts noted s × Holdable K.Kind.model s }
         ensures { (s : Score) → nodes.now ≡ preorder s → self.new ≡ slice_set self.old to (Some s) }

@@ -37,8 +37,12 @@ returns-clause-held g c =
     let n = c.self.invariant.true p c.in-Some.noted noted in
     let row = lent_used f c.self.inside.nodes.now p c.in-Some.noted.nodes c.some_of-nodes.ensures ∙ n.stands in
     let is = c.of.ensures ∙ ap score_of row ∙ score_preorder n.score in
-    rw is (record {
-      here = ap (λ l. at l p) (sym c.self.view_is) ∙ at_full f c.self.inside.nodes.now c.self.inside.places g.K.Kind.model p c.in-Some.noted noted n;
-      counts = n.counts;
-      holdable = n.holdable;
-    })
+    ap (λ l. at l p) (sym c.self.view_is) ∙ at_full f c.self.inside.nodes.now c.self.inside.places g.K.Kind.model p c.in-Some.noted noted n ∙ ap Some (sym is)
+
+pub invariant_of-result : goal.invariant_of-result
+invariant_of-result g c =
+    let f = g.K.Kind.numbers_of in
+    let p = c.args.place in
+    let n = c.self.invariant.true p c.in-Some.noted (sym c.note_at.ensures ∙ c.in-Some.is) in
+    let is = c.of.ensures ∙ ap score_of (lent_used f c.self.inside.nodes.now p c.in-Some.noted.nodes c.some_of-nodes.ensures ∙ n.stands) ∙ score_preorder n.score in
+    rw is (record { counts = n.counts; fits = n.holdable.fits })

@@ -1,9 +1,9 @@
--- How many bytes the file of a score has.
-use Rattle.std.proofs.Common.{◌^◌, ◌<◌, ◌≤◌, length, arith}
+-- How many bytes the term of a score has.
+use Rattle.std.proofs.Common.{◌+◌, ◌*◌, ◌^◌, ◌<◌, ◌≤◌, length, arith}
 use Rattle.algebra.specs.Kind.{KindModel, KindLaws}
 use Rattle.algebra.specs.Score.{Score, Score.rest, Score.primitive, Score.sequence, Score.parallel, Legal, score_length}
-use Rattle.grammar.specs.Loads.{file_of, file_bytes}
-use Rattle.grammar.proofs.Sizes.{Narrow, length_file}
+use Rattle.grammar.specs.Files.{print}
+use Rattle.grammar.proofs.Sizes.{Narrow, length_print}
 use Rattle.nodes.specs.Standing.{Limited}
 
 module _ (K : KindModel) (laws : KindLaws K) where
@@ -14,6 +14,6 @@ module _ (K : KindModel) (laws : KindLaws K) where
   narrow_score (sequence a b) l h = (narrow_score a l.0 (omega arith), narrow_score b l.1 (omega arith))
   narrow_score (parallel a b) l h = (narrow_score a l.0 (omega arith), narrow_score b l.1 (omega arith))
 
-  -- a score that keeps to the limits has a small file
-  pub length_bytes : (s : Score) → Limited K s → length (file_bytes K s) ≤ 16384
-  length_bytes s l = length_file (file_of K s) laws.named.short (omega (arith, l.short)) l.few (narrow_score s l.legal (omega (arith, l.short))) l.small l.few
+  -- at most 9 bytes for each node, and 35 more for each primitive
+  pub length_term : (s : Score) → Limited K s → length (print s) ≤ 9 * 1023 + 35 * 170
+  length_term s l = omega (arith, length_print s (narrow_score s l.legal (omega (arith, l.short))), l.small, l.few)

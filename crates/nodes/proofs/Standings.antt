@@ -6,7 +6,7 @@ use Rattle.algebra.specs.declared.node.Node.{Node}
 use Rattle.algebra.specs.Kind.{KindModel, LengthLaws}
 use Rattle.algebra.specs.Score.{Score, Score.sequence, Score.parallel, Legal, nodes, score_length}
 use Rattle.algebra.specs.Layout.{seen, view, preorder, score_at, score_of}
-use Rattle.algebra.specs.Limits.{Holdable}
+use Rattle.algebra.specs.Limits.{Fits}
 use Rattle.nodes.specs.declared.span.Span.{Span}
 use Rattle.nodes.specs.declared.join.Join.{Join}
 use Rattle.nodes.specs.declared.join.Join.TheVariants as joins
@@ -48,13 +48,13 @@ held_stands K laws f ok row held =
       };
     }
 
--- and so does a score that may be held
-pub holdable_stands : (K : KindModel) {P : Type 0} (f : P → Numbers) (row : List (Node P)) (s : Score) → view f row ≡ preorder s → Holdable K s → Stands K f row
-holdable_stands K f row s e h =
+-- and so does a score that a place has room for
+pub fitting_stands : (K : KindModel) (laws : LengthLaws K) {P : Type 0} (f : P → Numbers) → ((x : P) → K.legal (f x) ≡ true) → (row : List (Node P)) (s : Score) → view f row ≡ preorder s → Fits K s → Stands K f row
+fitting_stands K laws f ok row s e h =
     let is : score_of (view f row) ≡ s = ap score_of e ∙ score_preorder s in
     record {
       whole = e ∙ ap preorder (sym is);
-      limited = subst (Limited K) (sym is) (record { legal = h.legal; small = h.fits.few_nodes; few = h.fits.few_primitives; short = omega (arith, h.fits.short) });
+      limited = subst (Limited K) (sym is) (record { legal = subst (Legal K) is (legal_row K laws f ok row); small = h.few_nodes; few = h.few_primitives; short = omega (arith, h.short) });
     }
 
 -- as many nodes as the row has

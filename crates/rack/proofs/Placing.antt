@@ -6,15 +6,22 @@ use Rattle.algebra.specs.declared.numbers.Numbers.{Numbers}
 use Rattle.algebra.specs.declared.node.Node.{Node}
 use Rattle.algebra.specs.Kind.{KindModel}
 use Rattle.algebra.specs.Score.{Score, nodes}
-use Rattle.algebra.specs.Limits.{Holdable}
+use Rattle.algebra.specs.Limits.{Fits}
 use Rattle.algebra.specs.Layout.{seen, preorder, view, score_of}
 use Rattle.nodes.specs.Rows.{overlaid}
 use Rattle.nodes.proofs.Parts.{length_preorder}
 use Rattle.nodes.proofs.Overlays.{front_same, back_same, overlaid_before, overlaid_here, overlaid_after, overlaid_length}
 use Rattle.nodes.proofs.Shapes.{score_preorder}
+use Rattle.building.specs.declared.size.Size.{Size}
+use Rattle.building.specs.Sizes.{size_of}
 use Rattle.rack.specs.declared.place.Place.{Place}
-use Rattle.rack.specs.Places.{number, used, place_at, held_at, shelf, Counts, Noted, Sound}
+use Rattle.rack.specs.Places.{number, place_of, used, place_at, held_at, shelf, Counts, Noted, Sound}
 use Rattle.rack.proofs.Shelves.{segment_within, length_shelf, at_any}
+
+-- the note of a score's size is true
+pub counts_of : (K : KindModel) (s : Score) (size : Size) (place : Place) → place ≡ place_of size → size ≡ size_of K s → Counts place s
+counts_of K s size place e d =
+    record { nodes_are = ap (λ (q : Place). q.nodes) e ∙ ap (λ (z : Size). z.nodes) d; primitives_are = ap (λ (q : Place). q.primitives) e ∙ ap (λ (z : Size). z.primitives) d }
 
 -- Nodes became others, but for the segment of a place as they were.
 pub record Kept (xs xs' : List (Node Numbers)) (to : ℕ) : Type 0 where
@@ -43,7 +50,7 @@ module _ {P : Type 0} (K : KindModel) (f : P → Numbers) (ns ns' : List (Node P
       side p ne = grind arith
 
   noted_small : (p : ℕ) (place : Place) → place_at places p ≡ Some place → place.nodes ≤ 1023
-  noted_small p place e = let n = sound.true p place e in omega (arith, n.counts.nodes_are, n.holdable.fits.few_nodes)
+  noted_small p place e = let n = sound.true p place e in omega (arith, n.counts.nodes_are, n.fits.few_nodes)
 
   held_other : (p : ℕ) → p ≢ to → (o' : Option Place) → place_at places p ≡ o' → held_at (view f ns') p o' ≡ held_at (view f ns) p o'
   held_other p ne None e = refl
@@ -63,7 +70,7 @@ module _ {P : Type 0} (K : KindModel) (f : P → Numbers) (ns ns' : List (Node P
             score = n.score;
             stands = used_other p place.nodes (noted_small p place is) ne ∙ n.stands;
             counts = n.counts;
-            holdable = n.holdable;
+            fits = n.fits;
           })
           (cases_eq p to)
 
@@ -91,9 +98,9 @@ module _ {P : Type 0} (K : KindModel) (f : P → Numbers) (ns ns' : List (Node P
 
 -- a score's nodes written over the front of a segment
 module _ {P : Type 0} (K : KindModel) (f : P → Numbers) (ns ns' : List (Node P)) (places : List (Option Place)) (sound : Sound K f ns places)
-    (to : ℕ) (there : to < number ns) (s : Score) (place : Place) (e : view f ns' ≡ overlaid (view f ns) (to * 1023) (preorder s)) (counts : Counts place s) (holdable : Holdable K s) where
+    (to : ℕ) (there : to < number ns) (s : Score) (place : Place) (e : view f ns' ≡ overlaid (view f ns) (to * 1023) (preorder s)) (counts : Counts place s) (fits : Fits K s) where
   room : to * 1023 + length (preorder s) ≤ length (view f ns)
-  room = omega (arith, segment_within ns to there, length-map ns (seen f), length_preorder s, holdable.fits.few_nodes)
+  room = omega (arith, segment_within ns to there, length-map ns (seen f), length_preorder s, fits.few_nodes)
 
   kept : Kept (view f ns) (view f ns') to
   kept =
@@ -103,7 +110,7 @@ module _ {P : Type 0} (K : KindModel) (f : P → Numbers) (ns ns' : List (Node P
       record {
         as_long = ap length e ∙ overlaid_length (view f ns) at row room;
         before = ap (take at) e ∙ overlaid_before (view f ns) at row room;
-        beyond = back_same (view f ns) (view f ns') (at + 1023) (at + length row) (omega (arith, length_preorder s, holdable.fits.few_nodes)) after;
+        beyond = back_same (view f ns) (view f ns') (at + 1023) (at + length row) (omega (arith, length_preorder s, fits.few_nodes)) after;
       }
 
   stands : used (view f ns') to place.nodes ≡ preorder s
@@ -118,7 +125,7 @@ module _ {P : Type 0} (K : KindModel) (f : P → Numbers) (ns ns' : List (Node P
         score = s;
         stands = stands;
         counts = counts;
-        holdable = holdable;
+        fits = fits;
       })
     where
       some_same : {x y : Place} → Some x ≡ Some y → x ≡ y

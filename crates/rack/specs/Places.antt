@@ -6,8 +6,9 @@ use Rattle.algebra.specs.declared.node.Node.{Node}
 use Rattle.algebra.specs.Kind.{KindModel}
 use Rattle.algebra.specs.Score.{Score, nodes, primitives}
 use Rattle.algebra.specs.Layout.{preorder, view, score_of}
-use Rattle.algebra.specs.Limits.{Holdable}
+use Rattle.algebra.specs.Limits.{Fits}
 use Rattle.building.specs.declared.size.Size.{Size}
+use Rattle.building.specs.Sizes.{size_of}
 use Rattle.rack.specs.declared.place.Place.{Place}
 
 -- One place for each 1,023 nodes, up to 8.
@@ -40,13 +41,19 @@ pub record Counts (place : Place) (s : Score) : Type 0 where
   pub nodes_are : place.nodes ≡ nodes s
   pub primitives_are : place.primitives ≡ primitives s
 
--- A place of the rack holds a score that may be held, of which the note is true.
+-- A place of the rack holds a score that it has room for, of which the note is true.
 pub record Noted {P : Type 0} (K : KindModel) (f : P → Numbers) (ns : List (Node P)) (p : ℕ) (place : Place) : Type 0 where
   pub there : p < number ns
   pub score : Score
   pub stands : used (view f ns) p place.nodes ≡ preorder score
   pub counts : Counts place score
-  pub holdable : Holdable K score
+  pub fits : Fits K score
+
+-- Nodes are those of a score that a place has room for, and a size is its size.
+pub record Ready (K : KindModel) (xs : List (Node Numbers)) (size : Size) (s : Score) : Type 0 where
+  pub nodes : xs ≡ preorder s
+  pub size_is : size ≡ size_of K s
+  pub fits : Fits K s
 
 -- There are 8 notes, and each is true; past the rack's places nothing is noted.
 pub record Sound {P : Type 0} (K : KindModel) (f : P → Numbers) (ns : List (Node P)) (places : List (Option Place)) : Type 0 where

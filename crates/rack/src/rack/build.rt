@@ -1,13 +1,14 @@
 // The calls that put a new score at an empty place.
-ghost use Rattle.std.specs.Prelude.{◌≡◌, ◌<◌, ◌≤◌, [], length, Some, slice_set, OnOk};
+ghost use Rattle.std.specs.Prelude.{◌≡◌, ◌<◌, ◌≤◌, [], length, Some, slice_set, IfOk, OnOk};
 ghost use Rattle.algebra.specs.Score.{Score.rest};
 ghost use Rattle.algebra.specs.Layout.{preorder};
 ghost use Rattle.nodes.specs.Joins.{joined};
 ghost use Rattle.building.specs.Sizes.{sized};
+ghost use Rattle.rack.specs.Places.{Ready};
+ghost use Rattle.rack.specs.Checks.{held_check};
 ghost use Rattle.rack.specs.Calls.{put};
 ghost use Rattle.rack.specs.Building.{rest_answer, joined_at, join_answer};
 
-use crate::place::Place;
 use crate::rack::Rack;
 use crate::rack::places::Held;
 use algebra::limits::{LONGEST, MOST_NODES};
@@ -43,11 +44,12 @@ impl<'a, K: Kind> Rack<'a, K> {
         let mut room = [Node::Rest(0); MOST_NODES];
         let mut nodes = NodeList::over(&mut room);
         nodes.push(Node::Rest(ticks));
-        let noted = Place {
+        let size = Size {
             nodes: 1,
             primitives: 0,
+            length: ticks,
         };
-        self.put(to, &nodes, noted);
+        self.put(to, &nodes, size);
     }
 
     // Puts the scores at two places, one after the other, at an empty place.
@@ -72,21 +74,38 @@ impl<'a, K: Kind> Rack<'a, K> {
         ensures after { self.new ≡ put result self.old to (joined_at join self.old first second) }
     {
         self.known(to)?;
+        let _ = &self.nodes;
+        let mut room = [Node::Rest(0); MOST_NODES];
+        let mut nodes = NodeList::over(&mut room);
+        let size = self.join_held(join, to, first, second, &mut nodes)?;
+        self.put(to, &nodes, size);
+        Ok(())
+    }
+
+    // Puts the nodes of two held scores together in a list that has none, where they may be joined at a place, and returns their size.
+    fn join_held(
+        &self,
+        join: Join,
+        to: u32,
+        first: u32,
+        second: u32,
+        out: &mut NodeList<'_, K>,
+    ) -> Result<Size, Refusal>
+        requires known { to < length self.now }
+        requires none { out.old ≡ [] }
+        ensures answer { held_check result ≡ join_answer K.Kind.model join self.now to first second }
+        ensures ready { IfOk result (λ size. Ready K.Kind.model out.new size (joined_at join self.now first second)) }
+    {
         self.known(first)?;
         self.known(second)?;
         let left = self.held(first)?;
         let right = self.held(second)?;
         self.vacant(to)?;
-        let _ = &self.nodes;
-        let mut room = [Node::Rest(0); MOST_NODES];
-        let mut nodes = NodeList::over(&mut room);
-        let size = join_into(join, &left, &right, &mut nodes)?;
-        self.put(to, &nodes, size.into());
-        Ok(())
+        join_into(join, &left, &right, out)
     }
 }
 
-// Puts the nodes of two held scores together behind those of a list that has none, where there is room for the result, and returns its size.
+// Puts the nodes of two held scores together in a list that has none, where there is room for the result, and returns its size.
 fn join_into<K: Kind>(
     join: Join,
     left: &Held<'_, K>,

@@ -2,14 +2,15 @@
 ghost use Rattle.std.specs.Prelude.{◌≡◌, ◌<◌, length, slice_set, Some, None, OnOk, IfOk};
 ghost use Rattle.algebra.specs.Score.{Score};
 ghost use Rattle.algebra.specs.Layout.{preorder};
-ghost use Rattle.algebra.specs.Limits.{Holdable, Fits};
-ghost use Rattle.rack.specs.Places.{place_at, Counts};
+ghost use Rattle.algebra.specs.Limits.{Fits};
+ghost use Rattle.rack.specs.Places.{place_at, Counts, Ready};
 ghost use Rattle.rack.specs.Shelves.{at};
 ghost use Rattle.rack.specs.Checks.{known, holding, vacant, held_check};
 
 use crate::place::Place;
 use crate::rack::Rack;
 use algebra::limits::MOST_NODES;
+use building::size::Size;
 use kinds::kind::Kind;
 use nodes::list::NodeList;
 use nodes::measured::Measured;
@@ -70,14 +71,14 @@ impl<'a, K: Kind> Rack<'a, K> {
         })
     }
 
-    // Puts a score that may be held at a place of the rack.
-    pub(crate) fn put(&mut self, to: u32, nodes: &NodeList<'_, K>, noted: Place)
+    // Puts a score of a size, which a place has room for, at a place of the rack.
+    pub(crate) fn put(&mut self, to: u32, nodes: &NodeList<'_, K>, size: Size)
         requires known { to < length self.old }
-        requires holdable { (s : Score) × (nodes.now ≡ preorder s) × Counts noted s × Holdable K.Kind.model s }
+        requires ready { (s : Score) × Ready K.Kind.model nodes.now size s }
         ensures { (s : Score) → nodes.now ≡ preorder s → self.new ≡ slice_set self.old to (Some s) }
     {
         write_over(self.nodes, to as usize * MOST_NODES, nodes.as_slice());
-        self.places[to as usize] = Some(noted);
+        self.places[to as usize] = Some(size.into());
     }
 
     // Empties a place of the rack.

@@ -1,7 +1,7 @@
 use Rattle.std.proofs.Common.{◌≡◌, ◌∷◌, Some, length, sym, ap, ◌∙◌, subst, arith}
 use Rattle.algebra.specs.Layout.{score_of}
 use Rattle.nodes.proofs.Shapes.{score_preorder}
-use Rattle.nodes.proofs.Standings.{holdable_stands}
+use Rattle.nodes.proofs.Standings.{fitting_stands}
 use Rattle.rack.specs.Shelves.{at}
 use Rattle.rack.proofs.Shelves.{segment_within, at_empty, at_full, holding_yes, holding_no, lent_used}
 use Rattle.rack.proofs.rack.Rack.held.Goals as goal
@@ -14,13 +14,13 @@ returns-in_default-clause-answer g c =
 pub some_of-nodes-requires : goal.some_of-nodes-requires
 some_of-nodes-requires g c =
     let n = c.self.invariant.true c.args.place c.in-Some.noted (sym c.note_at.ensures ∙ c.in-Some.is) in
-    omega (arith, segment_within c.self.inside.nodes.now c.args.place n.there, n.counts.nodes_are, n.holdable.fits.few_nodes)
+    omega (arith, segment_within c.self.inside.nodes.now c.args.place n.there, n.counts.nodes_are, n.fits.few_nodes)
 
 pub of-requires : goal.of-requires
 of-requires g c =
     let f = g.K.Kind.numbers_of in
     let n = c.self.invariant.true c.args.place c.in-Some.noted (sym c.note_at.ensures ∙ c.in-Some.is) in
-    holdable_stands g.K.Kind.model f c.some_of-nodes.result.now n.score (lent_used f c.self.inside.nodes.now c.args.place c.in-Some.noted.nodes c.some_of-nodes.ensures ∙ n.stands) n.holdable
+    fitting_stands g.K.Kind.model g.met.K.Kind.lawful.lengths f g.met.K.Kind.legal c.some_of-nodes.result.now n.score (lent_used f c.self.inside.nodes.now c.args.place c.in-Some.noted.nodes c.some_of-nodes.ensures ∙ n.stands) n.fits
 
 pub returns-clause-answer : goal.returns-clause-answer
 returns-clause-answer g c =
@@ -45,4 +45,4 @@ invariant_of-result g c =
     let p = c.args.place in
     let n = c.self.invariant.true p c.in-Some.noted (sym c.note_at.ensures ∙ c.in-Some.is) in
     let is = c.of.ensures ∙ ap score_of (lent_used f c.self.inside.nodes.now p c.in-Some.noted.nodes c.some_of-nodes.ensures ∙ n.stands) ∙ score_preorder n.score in
-    rw is (record { counts = n.counts; fits = n.holdable.fits })
+    rw is (record { counts = n.counts; fits = n.fits })

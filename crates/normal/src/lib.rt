@@ -5,3 +5,4 @@ pub mod lines;
 pub mod listing;
 pub mod normal;
 pub mod onsets;
+pub mod placed;

@@ -3,10 +3,10 @@ ghost use Rattle.std.specs.Prelude.{◌≡◌, ◌+◌, ◌-◌, ◌*◌, ◌≤
 ghost use Rattle.algebra.specs.Kind.{LegalNumbers};
 ghost use Rattle.algebra.specs.Layout.{view, preorder};
 ghost use Rattle.nodes.specs.Rows.{Wrote};
-ghost use Rattle.normal.specs.Placing.{AllLegal};
+ghost use Rattle.normal.specs.Placing.{placed_of};
 ghost use Rattle.normal.specs.Writing.{line_of, lines_of};
 
-use crate::onsets::PlacedNumbers;
+use crate::placed::{PlacedList, PlacedNumbers};
 use algebra::node::Node;
 use algebra::numbers::Numbers;
 use kinds::kind::Kind;
@@ -29,7 +29,7 @@ pub fn write_line<K: Kind>(
 ) -> usize
     requires legal { LegalNumbers K.Kind.model item.numbers }
     requires fits { to + 5 ≤ length_of target.old }
-    ensures { Wrote (view K.Kind.numbers_of target.old) (view K.Kind.numbers_of target.new) to result (preorder (line_of K.Kind.model length item)) }
+    ensures { Wrote (view K.Kind.numbers_of target.old) (view K.Kind.numbers_of target.new) to result (preorder (line_of K.Kind.model length (placed_of item))) }
 {
     let primitive = primitive_of::<K>(item.numbers);
     let left = length.saturating_sub(item.onset);
@@ -42,19 +42,19 @@ pub fn write_line<K: Kind>(
 }
 
 // Writes the lines of placed primitives in a score of a length, put together in their order, and returns the end of what is written.
-pub fn write_lines<K: Kind>(length: u32, placed: &[PlacedNumbers], target: &mut [Node<K>]) -> usize
-    requires legal { AllLegal K.Kind.model placed.now }
-    requires fits { max 1 (6 * length_of placed.now - 1) ≤ length_of target.old }
+pub fn write_lines<K: Kind>(length: u32, placed: &PlacedList<K>, target: &mut [Node<K>]) -> usize
+    requires { max 1 (6 * length_of placed.now - 1) ≤ length_of target.old }
     ensures { Wrote (view K.Kind.numbers_of target.old) (view K.Kind.numbers_of target.new) 0 result (preorder (lines_of K.Kind.model length placed.now)) }
 {
-    if placed.len() == 0 {
-        return put(target, 0, Node::Rest(length));
+    match placed.items().split_last() {
+        None => put(target, 0, Node::Rest(length)),
+        Some((last, rest)) => {
+            let mut to = 0;
+            for item in rest {
+                to = put(target, to, Node::Parallel);
+                to = write_line(length, *item, target, to);
+            }
+            write_line(length, *last, target, to)
+        }
     }
-    let last = placed.len() - 1;
-    let mut to = 0;
-    for at in 0..last {
-        to = put(target, to, Node::Parallel);
-        to = write_line(length, placed[at], target, to);
-    }
-    write_line(length, placed[last], target, to)
 }

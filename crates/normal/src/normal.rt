@@ -7,7 +7,7 @@ ghost use Rattle.nodes.specs.Rows.{Wrote};
 ghost use Rattle.nodes.specs.Spans.{Spanned};
 
 use crate::lines::write_lines;
-use crate::onsets::{BLANK, place_primitives};
+use crate::onsets::place_primitives;
 use algebra::node::Node;
 use kinds::kind::Kind;
 use nodes::span::Span;
@@ -20,8 +20,7 @@ pub fn normalise_into<K: Kind>(row: &[Node<K>], spans: &[Span], target: &mut [No
     requires fits { 1019 ≤ length target.old }
     ensures { Wrote (view K.Kind.numbers_of target.old) (view K.Kind.numbers_of target.new) 0 result (preorder (normal K.Kind.model (score_of (view K.Kind.numbers_of row.now)))) }
 {
-    let mut placed = [BLANK; 170];
-    let count = place_primitives(row, spans, &mut placed);
+    let placed = place_primitives(row, spans);
     let whole = spans[0];
-    write_lines(whole.length, &placed[..count], target)
+    write_lines(whole.length, &placed, target)
 }

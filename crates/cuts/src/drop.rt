@@ -1,53 +1,40 @@
 // What follows the first ticks of a score.
-ghost use Rattle.std.specs.Prelude.{◌+◌, ◌<◌, ◌≤◌, length};
+ghost use Rattle.std.specs.Prelude.{◌≡◌, ◌+◌, ◌≤◌, ◌++◌, length};
 ghost use Rattle.algebra.specs.Cuts.{dropped};
-ghost use Rattle.algebra.specs.Layout.{view, preorder, score_at};
-ghost use Rattle.nodes.specs.Held.{Held};
-ghost use Rattle.nodes.specs.Spans.{Spanned};
-ghost use Rattle.nodes.specs.Rows.{Wrote};
+ghost use Rattle.algebra.specs.Layout.{preorder};
+ghost use Rattle.algebra.specs.Score.{nodes};
 
 use crate::ends::tail_node;
-use crate::part::{Parted, parts_at};
 use algebra::node::Node;
 use kinds::kind::Kind;
-use nodes::span::Span;
-use nodes::write::{copy_score, put};
+use nodes::join::Join;
+use nodes::list::NodeList;
+use nodes::score::{Look, Score};
 
-// Writes what follows the first ticks of the score that begins at a node, and returns the end of what is written.
-pub fn drop_into<K: Kind>(
-    row: &[Node<K>],
-    spans: &[Span],
-    at: usize,
-    target: &mut [Node<K>],
-    to: usize,
-    ticks: u32,
-) -> usize
-    requires held { Held (view K.Kind.numbers_of row.now) }
-    requires inside { at < length row.now }
-    requires room { length row.now ≤ length spans.now }
-    requires spanned { Spanned K.Kind.model (view K.Kind.numbers_of row.now) spans.now 0 }
-    requires fits { to + length (preorder (dropped K.Kind.model ticks (score_at (view K.Kind.numbers_of row.now) at))) ≤ length target.old }
-    ensures { Wrote (view K.Kind.numbers_of target.old) (view K.Kind.numbers_of target.new) to result (preorder (dropped K.Kind.model ticks (score_at (view K.Kind.numbers_of row.now) at))) }
+// Puts what follows the first ticks of a score behind the nodes of a list.
+pub fn drop_into<K: Kind>(score: &Score<'_, K>, ticks: u32, out: &mut NodeList<K>)
+    requires { length out.old + nodes (dropped K.Kind.model ticks score.now) ≤ 1023 }
+    ensures { out.new ≡ out.old ++ preorder (dropped K.Kind.model ticks score.now) }
 {
     if ticks == 0 {
-        return copy_score(row, spans, at, target, to);
+        return out.push_score(score);
     }
-    match parts_at(row, spans, at) {
-        Parted::Rest(duration) => put(target, to, Node::Rest(duration.saturating_sub(ticks))),
-        Parted::Primitive(primitive) => put(target, to, tail_node(primitive, ticks)),
-        Parted::Sequence(left, right) => {
-            if left.length <= ticks {
-                drop_into(row, spans, right.at, target, to, ticks - left.length)
+    match score.look() {
+        Look::Rest(duration) => out.push(Node::Rest(duration.saturating_sub(ticks))),
+        Look::Primitive(primitive) => out.push(tail_node(primitive, ticks)),
+        Look::Pair(Join::Sequence, left, right) => {
+            if left.length() <= ticks {
+                drop_into(&right, ticks - left.length(), out);
             } else {
-                let next = put(target, to, Node::Sequence);
-                let next = drop_into(row, spans, left.at, target, next, ticks);
-                copy_score(row, spans, right.at, target, next)
+                out.push(Node::Sequence);
+                drop_into(&left, ticks, out);
+                out.push_score(&right);
             }
         }
-        Parted::Parallel(left, right) => {
-            let next = put(target, to, Node::Parallel);
-            let next = drop_into(row, spans, left.at, target, next, ticks);
-            drop_into(row, spans, right.at, target, next, ticks)
+        Look::Pair(Join::Parallel, left, right) => {
+            out.push(Node::Parallel);
+            drop_into(&left, ticks, out);
+            drop_into(&right, ticks, out);
         }
     }
 }

@@ -19,8 +19,8 @@ use Rattle.rack.specs.Building.{rest_answer, joinable, joined_at, join_answer, m
 use Rattle.building.specs.Rows.{score_in}
 use Rattle.building.specs.Steps.{step_named, step_checks, stepped}
 use Rattle.rack.specs.Steps.{stepped_at, rewritable, steppable, rewrite_answer}
-use Rattle.nodes.specs.declared.joint.Joint.{Joint}
-use Rattle.nodes.specs.declared.joint.Joint.TheVariants as joint
+use Rattle.nodes.specs.declared.join.Join.{Join}
+use Rattle.nodes.specs.declared.join.Join.TheVariants as join
 use Rattle.ledger.specs.declared.call.Call.{Call}
 use Rattle.ledger.specs.declared.call.Call.TheVariants as call
 use Rattle.ledger.specs.declared.call.Answer.{Answer}
@@ -82,7 +82,7 @@ module _ (K : KindModel) where
         (rest_holds K d (record { few_nodes = omega arith; few_primitives = omega arith; short = within_short d _ a.0 })) e
 
     -- a join, by what its page is
-    join_step : (j : Joint) (make : Page → Page → Page) (to x y : ℕ)
+    join_step : (j : Join) (make : Page → Page → Page) (to x y : ℕ)
         → ((p q : Page) → Holds K (score_held shelf x) p → Holds K (score_held shelf y) q → Fits K (joined_at j shelf x y) → Holds K (joined_at j shelf x y) (make p q))
         → join_answer K j shelf to x y ≡ passed → (m : Ledger) → m ≡ set l to (from_two make (page l x) (page l y)) → Stands K (set shelf to (Some (joined_at j shelf x y))) m
     join_step j make to x y holds h m e =
@@ -163,11 +163,11 @@ module _ (K : KindModel) where
         puts (call.Load to text) s t a l m st (load_answer given s.shelf to) to (score_read given) p (λ e k. load_step s.shelf l st text.now given g to e k.0 k.1 m k.2) h
     step (call.Rest to ticks) p h = puts (call.Rest to ticks) s t a l m st (rest_answer s.shelf to ticks) to (rest ticks) p (λ e k. rest_step s.shelf l st to ticks e m k) h
     step (call.JoinSequence to x y) p h =
-        puts (call.JoinSequence to x y) s t a l m st (join_answer K joint.Sequence s.shelf to x y) to (joined_at joint.Sequence s.shelf x y) p
-        (λ e k. join_step s.shelf l st joint.Sequence sequence_page to x y (λ p q. sequence_holds K (score_held s.shelf x) (score_held s.shelf y) p q) e m k) h
+        puts (call.JoinSequence to x y) s t a l m st (join_answer K join.Sequence s.shelf to x y) to (joined_at join.Sequence s.shelf x y) p
+        (λ e k. join_step s.shelf l st join.Sequence sequence_page to x y (λ p q. sequence_holds K (score_held s.shelf x) (score_held s.shelf y) p q) e m k) h
     step (call.JoinParallel to x y) p h =
-        puts (call.JoinParallel to x y) s t a l m st (join_answer K joint.Parallel s.shelf to x y) to (joined_at joint.Parallel s.shelf x y) p
-        (λ e k. join_step s.shelf l st joint.Parallel parallel_page to x y (λ p q. parallel_holds K (score_held s.shelf x) (score_held s.shelf y) p q) e m k) h
+        puts (call.JoinParallel to x y) s t a l m st (join_answer K join.Parallel s.shelf to x y) to (joined_at join.Parallel s.shelf x y) p
+        (λ e k. join_step s.shelf l st join.Parallel parallel_page to x y (λ p q. parallel_holds K (score_held s.shelf x) (score_held s.shelf y) p q) e m k) h
     step (call.Reverse to x) p h =
         let r = reversed K (score_held s.shelf x) in
         puts (call.Reverse to x) s t a l m st (make_answer K s.shelf to x r) to r p (λ e k. make_step s.shelf l st r (reverse_page K) to x (reverse_holds K laws (score_held s.shelf x)) e m k) h

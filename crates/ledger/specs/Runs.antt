@@ -9,8 +9,8 @@ use Rattle.grammar.specs.Loads.{Loads}
 use Rattle.render.specs.declared.entry.Entry.{Entry}
 use Rattle.drawing.specs.Drawn.{drawn_score}
 use Rattle.writing.specs.Writes.{written_over}
-use Rattle.nodes.specs.declared.joint.Joint.{Joint}
-use Rattle.nodes.specs.declared.joint.Joint.TheVariants as joint
+use Rattle.nodes.specs.declared.join.Join.{Join}
+use Rattle.nodes.specs.declared.join.Join.TheVariants as join
 use Rattle.rack.specs.Shelves.{Shelf, score_held}
 use Rattle.refusals.specs.Checks.{Check}
 use Rattle.rack.specs.Calls.{put, cleared, clear_answer, tell_answer, load_answer, score_read, bytes_at, write_answer}
@@ -80,8 +80,8 @@ abbrev pub Makes : {P : Type 0} → KindModel → State P → ℕ → ℕ → Sc
 Makes K s to source result a t = Puts s (make_answer K s.shelf to source result) to result a t
 
 -- A join.
-abbrev pub Joins : {P : Type 0} → KindModel → Joint → State P → ℕ → ℕ → ℕ → Answer → State P → Type 0
-Joins K joint s to x y a t = Puts s (join_answer K joint s.shelf to x y) to (joined_at joint s.shelf x y) a t
+abbrev pub Joins : {P : Type 0} → KindModel → Join → State P → ℕ → ℕ → ℕ → Answer → State P → Type 0
+Joins K join s to x y a t = Puts s (join_answer K join s.shelf to x y) to (joined_at join s.shelf x y) a t
 
 -- A call that writes a file into the buffer.
 abbrev pub Writes : {P : Type 0} → State P → Result ℕ Refusal → List ℕ → Answer → State P → Type 0
@@ -91,8 +91,8 @@ Writes s r bytes a t = Gave (wrote_of r) (record { shelf = s.shelf; buffer = wri
 abbrev pub Did : {P : Type 0} → KindModel → RendererAt P → State P → Call → Answer → State P → Type 0
 Did K R s (call.Load to text) a t = (given : Result Score Refusal) × Loads K text.now given × Puts s (load_answer given s.shelf to) to (score_read given) a t
 Did K R s (call.Rest to ticks) a t = Puts s (rest_answer s.shelf to ticks) to (rest ticks) a t
-Did K R s (call.JoinSequence to x y) a t = Joins K joint.Sequence s to x y a t
-Did K R s (call.JoinParallel to x y) a t = Joins K joint.Parallel s to x y a t
+Did K R s (call.JoinSequence to x y) a t = Joins K join.Sequence s to x y a t
+Did K R s (call.JoinParallel to x y) a t = Joins K join.Parallel s to x y a t
 Did K R s (call.Reverse to x) a t = Makes K s to x (reversed K (score_held s.shelf x)) a t
 Did K R s (call.Take to x ticks) a t = Makes K s to x (taken K ticks (score_held s.shelf x)) a t
 Did K R s (call.Drop to x ticks) a t = Makes K s to x (dropped K ticks (score_held s.shelf x)) a t

@@ -5,4 +5,6 @@ pub mod Writings
 pub mod Shapes
 pub mod Lengths
 pub mod Tables
-pub mod Joints
+pub mod Joins
+pub mod Standings
+pub mod Lists

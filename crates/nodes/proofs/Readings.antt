@@ -48,7 +48,7 @@ module _ (xs : List (Node Numbers)) (whole : xs ≡ preorder (score_of xs)) wher
       ap (λ n. get_or xs n d) (sym z) ∙ sym (get_or-drop k xs 0 d) ∙ ap (λ n. get_or (drop n xs) 0 d) (sym w.there) ∙ ap (λ ys. get_or ys 0 d) (from_place xs (score_of xs) whole w.path)
       ∙ top_first w.part (behind w.path) d ∙ ap top (sym (begins k h))
 
-  deeper : {t u : Score} (p : Within (score_of xs) t) (q : Within t u) (k : ℕ) → place p + place q ≡ k → score_at xs k ≡ u
+  pub deeper : {t u : Score} (p : Within (score_of xs) t) (q : Within t u) (k : ℕ) → place p + place q ≡ k → score_at xs k ≡ u
   deeper p q k e = let (r, there) = inner p q in ap (score_at xs) (sym e ∙ sym there) ∙ score_place xs (score_of xs) whole r
 
   sequence_found : (k : ℕ) (h : k < length xs) (t : Score) (p : Within (score_of xs) t) → place p ≡ k → top t ≡ Sequence → Pair sequence xs k (k + 1) (k + 1 + nodes (score_at xs (k + 1)))

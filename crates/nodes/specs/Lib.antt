@@ -3,4 +3,7 @@ pub mod Held
 pub mod Pairs
 pub mod Spans
 pub mod Sights
-pub mod Joints
+pub mod Joins
+pub mod Codes
+pub mod Standing
+pub mod Scores

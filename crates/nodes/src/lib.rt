@@ -1,9 +1,13 @@
 // Scores as rows of nodes in preorder, over any kind of primitive.
 #![tactic(auto)]
 
-pub mod joint;
+pub mod join;
+pub mod list;
 pub mod measure;
+pub mod measured;
+pub mod score;
 pub mod sight;
+pub mod some;
 pub mod span;
 pub mod spans;
 pub mod write;

@@ -7,7 +7,7 @@ use algebra::node::Node;
 use kinds::kind::Kind;
 
 // How many nodes the score that begins at a node has, and its length.
-#[derive(Clone, Copy)]
+#[derive(Clone, Copy, Default)]
 pub struct Span {
     pub nodes: u32,
     pub length: u32,

@@ -8,10 +8,10 @@ use Rattle.algebra.specs.Kind.{KindModel}
 use Rattle.algebra.specs.Score.{Score, nodes, primitives, score_length}
 use Rattle.algebra.specs.Limits.{Fits}
 use Rattle.algebra.specs.Layout.{preorder, seen, view}
-use Rattle.nodes.specs.declared.joint.Joint.{Joint}
-use Rattle.nodes.specs.Joints.{node_of, length_of}
+use Rattle.nodes.specs.declared.join.Join.{Join}
+use Rattle.nodes.specs.Joins.{node_of, length_of}
 use Rattle.nodes.specs.Rows.{overlaid, Wrote}
-use Rattle.nodes.proofs.Joints.{joined_preorder, joined_nodes, joined_primitives, joined_length, seen_node_lem}
+use Rattle.nodes.proofs.Joins.{joined_preorder, joined_nodes, joined_primitives, joined_length, seen_node_lem}
 use Rattle.nodes.proofs.Overlays.{front_same, back_same, overlaid_before, overlaid_after, overlaid_paste}
 use Rattle.nodes.proofs.Writings.{wrote_length, wrote_then, wrote_as, wrote_put, wrote_copy}
 use Rattle.rack.specs.declared.place.Place.{Place}
@@ -97,7 +97,7 @@ module _ {P : Type 0} {g : _} (f : P → Numbers) (rack : Rack P g) (to a b : �
   pub right_apart : count ≤ 1023 → Apart (b * 1023) right.nodes (to * 1023) count
   right_apart h = segments_apart to b right.nodes count (λ e. omega (arith, ready.second_held, ready.to_empty, ap (λ p. (place_at rack.places p).nodes) e)) (omega arith) h
 
-  module _ (K : KindModel) (j : Joint) (m n l : ℕ) (m-is : m ≡ score_length K (score_held (shelf f rack) a)) (n-is : n ≡ score_length K (score_held (shelf f rack) b)) (l-is : l ≡ length_of j m n) where
+  module _ (K : KindModel) (j : Join) (m n l : ℕ) (m-is : m ≡ score_length K (score_held (shelf f rack) a)) (n-is : n ≡ score_length K (score_held (shelf f rack) b)) (l-is : l ≡ length_of j m n) where
     abbrev whole : Score
     whole = joined_at j (shelf f rack) a b
 

@@ -2,8 +2,8 @@
 use Rattle.std.specs.Prelude.{◌≡◌, ℕ, ◌<◌, List, [], ◌∷◌, ◌++◌, nat_le}
 use Rattle.algebra.specs.Kind.{KindModel}
 use Rattle.algebra.specs.Score.{Score}
-use Rattle.nodes.specs.declared.joint.Joint.{Joint}
-use Rattle.nodes.specs.Joints.{joined}
+use Rattle.nodes.specs.declared.join.Join.{Join}
+use Rattle.nodes.specs.Joins.{joined}
 use Rattle.refusals.specs.declared.refusal.Refusal.TheVariants.{BadValue}
 use Rattle.rack.specs.declared.rack.Rack.{Rack}
 use Rattle.rack.specs.Places.{number, place_at}
@@ -30,12 +30,12 @@ pub record Joinable {K : Type 0} {g : _} (rack : Rack K g) (to a b : ℕ) : Type
   pub to_empty : (place_at rack.places to).nodes ≡ 0
 
 -- The result of a join.
-abbrev pub joined_at : Joint → Shelf → ℕ → ℕ → Score
-joined_at joint shelf a b = joined joint (score_held shelf a) (score_held shelf b)
+abbrev pub joined_at : Join → Shelf → ℕ → ℕ → Score
+joined_at join shelf a b = joined join (score_held shelf a) (score_held shelf b)
 
 -- Join: 21, 22 and 23 by the places, and 26 and 27 by the result.
-abbrev pub join_answer : KindModel → Joint → Shelf → ℕ → ℕ → ℕ → Check
-join_answer K joint shelf to a b = all (joinable shelf to a b ++ limits K (joined_at joint shelf a b))
+abbrev pub join_answer : KindModel → Join → Shelf → ℕ → ℕ → ℕ → Check
+join_answer K join shelf to a b = all (joinable shelf to a b ++ limits K (joined_at join shelf a b))
 
 -- The places of a call that makes a score from one: 21 for the destination and for the source, 22 for the source, 23.
 abbrev pub makeable : Shelf → ℕ → ℕ → List Check

@@ -13,7 +13,7 @@ use crate::rack::checks::SEGMENT;
 use algebra::node::Node;
 use building::size::{LONGEST, Size, limits};
 use kinds::kind::Kind;
-use nodes::joint::Joint;
+use nodes::join::Join;
 use refusals::refusal::Refusal;
 
 impl<'a, K: Kind> Rack<'a, K> {
@@ -46,18 +46,18 @@ impl<'a, K: Kind> Rack<'a, K> {
 
     // Puts the scores at two places, one after the other, at an empty place.
     pub fn join_sequence(&mut self, to: u32, first: u32, second: u32) -> Result<(), Refusal>
-        ensures answer { result ≡ join_answer K.Kind.model Joint.Sequence (shelf K.Kind.numbers_of self.old) to first second }
-        ensures after { shelf K.Kind.numbers_of self.new ≡ put result (shelf K.Kind.numbers_of self.old) to (joined_at Joint.Sequence (shelf K.Kind.numbers_of self.old) first second) }
+        ensures answer { result ≡ join_answer K.Kind.model Join.Sequence (shelf K.Kind.numbers_of self.old) to first second }
+        ensures after { shelf K.Kind.numbers_of self.new ≡ put result (shelf K.Kind.numbers_of self.old) to (joined_at Join.Sequence (shelf K.Kind.numbers_of self.old) first second) }
     {
-        self.join(Joint::Sequence, to, first, second)
+        self.join(Join::Sequence, to, first, second)
     }
 
     // Puts the scores at two places, side by side, at an empty place.
     pub fn join_parallel(&mut self, to: u32, first: u32, second: u32) -> Result<(), Refusal>
-        ensures answer { result ≡ join_answer K.Kind.model Joint.Parallel (shelf K.Kind.numbers_of self.old) to first second }
-        ensures after { shelf K.Kind.numbers_of self.new ≡ put result (shelf K.Kind.numbers_of self.old) to (joined_at Joint.Parallel (shelf K.Kind.numbers_of self.old) first second) }
+        ensures answer { result ≡ join_answer K.Kind.model Join.Parallel (shelf K.Kind.numbers_of self.old) to first second }
+        ensures after { shelf K.Kind.numbers_of self.new ≡ put result (shelf K.Kind.numbers_of self.old) to (joined_at Join.Parallel (shelf K.Kind.numbers_of self.old) first second) }
     {
-        self.join(Joint::Parallel, to, first, second)
+        self.join(Join::Parallel, to, first, second)
     }
 
     // Refuses places that cannot be joined at another, whatever the size of the result.
@@ -74,9 +74,9 @@ impl<'a, K: Kind> Rack<'a, K> {
     }
 
     // Puts the scores at two places together at an empty place.
-    fn join(&mut self, joint: Joint, to: u32, first: u32, second: u32) -> Result<(), Refusal>
-        ensures answer { result ≡ join_answer K.Kind.model joint (shelf K.Kind.numbers_of self.old) to first second }
-        ensures after { shelf K.Kind.numbers_of self.new ≡ put result (shelf K.Kind.numbers_of self.old) to (joined_at joint (shelf K.Kind.numbers_of self.old) first second) }
+    fn join(&mut self, join: Join, to: u32, first: u32, second: u32) -> Result<(), Refusal>
+        ensures answer { result ≡ join_answer K.Kind.model join (shelf K.Kind.numbers_of self.old) to first second }
+        ensures after { shelf K.Kind.numbers_of self.new ≡ put result (shelf K.Kind.numbers_of self.old) to (joined_at join (shelf K.Kind.numbers_of self.old) first second) }
     {
         self.joinable(to, first, second)?;
         let left = self.places[first as usize];
@@ -84,12 +84,12 @@ impl<'a, K: Kind> Rack<'a, K> {
         let size = Size {
             nodes: 1 + left.nodes + right.nodes,
             primitives: left.primitives + right.primitives,
-            length: joint.length(self.length(first), self.length(second)),
+            length: join.length(self.length(first), self.length(second)),
         };
         limits(size)?;
         self.row.join(
             to as usize * SEGMENT,
-            joint.node(),
+            join.node(),
             first as usize * SEGMENT,
             left.nodes as usize,
             second as usize * SEGMENT,

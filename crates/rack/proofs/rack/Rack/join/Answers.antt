@@ -52,11 +52,11 @@ returns-in_err-limits g c =
     let rack = c.args.self.now in
     let f = g.K.Kind.numbers_of in
     let joins = c.in_ok-joinable.ensures in
-    let answered = join_answer_lem f rack c.args.to c.args.first c.args.second joins.ready g.K.Kind.model c.args.joint _ _ _ c.length.ensures c.length-2.ensures c.length-3.ensures joins.answer in
+    let answered = join_answer_lem f rack c.args.to c.args.first c.args.second joins.ready g.K.Kind.model c.args.join _ _ _ c.length.ensures c.length-2.ensures c.length-3.ensures joins.answer in
     let p = err_from_is_err_and c.from_residual-in_err-limits.result c.from_residual-in_err-limits.ensures.1 in
     record {
       answer = p.1 ∙ ap Err p.2 ∙ c.in_err-limits.ensures.answer ∙ answered;
-      after = sym (ap (λ r. put r (shelf f rack) c.args.to (joined_at c.args.joint (shelf f rack) c.args.first c.args.second)) p.1);
+      after = sym (ap (λ r. put r (shelf f rack) c.args.to (joined_at c.args.join (shelf f rack) c.args.first c.args.second)) p.1);
     }
 
 pub invariant_of-self : goal.invariant_of-self
@@ -67,7 +67,7 @@ invariant_of-self g c =
     let to = c.args.to in
     let a = c.args.first in
     let b = c.args.second in
-    let j = c.args.joint in
+    let j = c.args.join in
     let ready = c.in_ok-joinable.ensures.ready in
     score_sound K f rack _ to (joined_at j (shelf f rack) a b) _ ready.to_known
     (c.join.ensures ∙ ap (overlaid (view f rack.row.nodes.now) (to * 1023)) (joined_written f rack to a b ready K j _ _ _ c.length.ensures c.length-2.ensures c.length-3.ensures _ c.node.ensures))
@@ -82,7 +82,7 @@ returns g c =
     let to = c.args.to in
     let a = c.args.first in
     let b = c.args.second in
-    let j = c.args.joint in
+    let j = c.args.join in
     let joins = c.in_ok-joinable.ensures in
     let ready = joins.ready in
     let limits = c.in_ok-limits.ensures in

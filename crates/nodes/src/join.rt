@@ -1,24 +1,24 @@
 // Sequence and parallel, as names of how two scores are put together.
 ghost use Rattle.std.specs.Prelude.{◌≡◌, ◌+◌, ◌^◌, ◌<◌};
-ghost use Rattle.nodes.specs.Joints.{node_of, length_of};
+ghost use Rattle.nodes.specs.Joins.{node_of, length_of};
 
 use algebra::node::Node;
 
 // How two scores are put together: one after the other, or side by side.
 #[derive(Clone, Copy)]
-pub enum Joint {
+pub enum Join {
     Sequence,
     Parallel,
 }
 
-impl Joint {
+impl Join {
     // The node of such a pair.
     pub fn node<K>(self) -> Node<K>
         ensures { result ≡ node_of self }
     {
         match self {
-            Joint::Sequence => Node::Sequence,
-            Joint::Parallel => Node::Parallel,
+            Join::Sequence => Node::Sequence,
+            Join::Parallel => Node::Parallel,
         }
     }
 
@@ -28,8 +28,8 @@ impl Joint {
         ensures { result ≡ length_of self first second }
     {
         match self {
-            Joint::Sequence => first + second,
-            Joint::Parallel => first.max(second),
+            Join::Sequence => first + second,
+            Join::Parallel => first.max(second),
         }
     }
 }

@@ -1,4 +1,4 @@
--- The order of all numbers is total. The laws of `Ord` and its like at `Ranked` cite this.
+-- The order of all numbers is total.
 use Rattle.std.proofs.Common.{◌≡◌, Bool, true, false, cond, Ordering, Less, Equal, Greater, refl, ap, ◌∙◌, ap₂}
 use Rattle.std.proofs.lemmas.Bool.{true≢false}
 use Rattle.std.specs.Cmp.{IsTotalOrder}

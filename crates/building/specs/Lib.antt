@@ -1,2 +1,4 @@
+pub mod Changes
 pub mod Sizes
+pub mod Steps
 pub mod Rows

@@ -1,4 +1,8 @@
-// Scores made from others, within the limits of a place.
+// Scores made from another: changed or rewritten, within the limits of a place.
 #![tactic(auto)]
 
+pub mod change;
+pub mod making;
+pub mod rewrite;
 pub mod size;
+pub mod step;

@@ -1,7 +1,7 @@
 // Held scores, measured.
 ghost use Rattle.std.specs.Prelude.{◌≡◌};
 ghost use Rattle.algebra.specs.Layout.{view, score_of};
-ghost use Rattle.nodes.specs.Held.{Held};
+ghost use Rattle.nodes.specs.Standing.{Stands};
 
 use crate::score::Score;
 use crate::span::Span;
@@ -36,7 +36,7 @@ impl<'a, K: Kind> Model for Measured<'a, K> {
 impl<'a, K: Kind> Measured<'a, K> {
     // The score that a row is.
     pub fn of(nodes: &'a [Node<K>]) -> Measured<'a, K>
-        requires { Held (view K.Kind.numbers_of nodes.now) }
+        requires { Stands K.Kind.model K.Kind.numbers_of nodes.now }
         ensures { result ≡ score_of (view K.Kind.numbers_of nodes.now) }
     {
         let mut spans = [Span::default(); MOST_NODES];

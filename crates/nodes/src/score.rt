@@ -2,7 +2,8 @@
 ghost use Rattle.std.specs.Prelude.{◌≡◌, ◌+◌, ◌<◌, ◌≤◌};
 ghost use Rattle.algebra.specs.Layout.{view, preorder, score_at};
 ghost use Rattle.algebra.specs.Score.{nodes, score_length};
-ghost use Rattle.nodes.specs.Scores.{Shows, Parts, Limited};
+ghost use Rattle.nodes.specs.Scores.{Shows, Parts};
+ghost use Rattle.nodes.specs.Standing.{Limited};
 
 use crate::join::Join;
 use crate::some::some_of;

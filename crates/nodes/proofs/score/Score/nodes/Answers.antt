@@ -2,4 +2,4 @@ use Rattle.nodes.proofs.Standings.{limited_as}
 use Rattle.nodes.proofs.score.Score.nodes.Goals as goal
 
 pub returns-clause-limited : goal.returns-clause-limited
-returns-clause-limited g c = limited_as g.K.Kind.model g.K.Kind.numbers_of c.self.inside.nodes.now c.self.inside.spans.now c.self.invariant.tabled g.met.K.Kind.lawful.lengths g.met.K.Kind.legal c.self.view_is
+returns-clause-limited g c = limited_as g.K.Kind.model g.K.Kind.numbers_of c.self.inside.nodes.now c.self.inside.spans.now c.self.invariant.tabled c.self.view_is

@@ -13,7 +13,7 @@ within : (K : KindModel) {P : Type 0} (f : P → Numbers) (row : List (Node P)) 
 within K f row spans t e k h = omega (arith, nodes_long K f row spans t, ap nodes e)
 
 pub offset_bounds-spans-at : goal.offset_bounds-spans-at
-offset_bounds-spans-at g c = omega (arith, within g.K.Kind.model g.K.Kind.numbers_of c.self.inside.nodes.now c.self.inside.spans.now c.self.invariant.tabled c.self.view_is c.args.at c.requires, c.self.invariant.tabled.held.small)
+offset_bounds-spans-at g c = omega (arith, within g.K.Kind.model g.K.Kind.numbers_of c.self.inside.nodes.now c.self.inside.spans.now c.self.invariant.tabled c.self.view_is c.args.at c.requires, c.self.invariant.tabled.stands.limited.small)
 
 pub bounds-spans-at : goal.bounds-spans-at
 bounds-spans-at g c =
@@ -59,7 +59,7 @@ returns-clause-part g c =
     let t = c.self.invariant.tabled in
     let h = within K f row spans t c.self.view_is c.args.at c.requires in
     ap (standing_score f) c.some_of.ensures ∙ part_score K f row spans t c.args.at h _ (span_nodes K f row spans t c.args.at h)
-    ∙ ap (λ xs. score_at xs c.args.at) (t.held.whole ∙ ap preorder c.self.view_is)
+    ∙ ap (λ xs. score_at xs c.args.at) (t.stands.whole ∙ ap preorder c.self.view_is)
 
 pub returns-clause-inside : goal.returns-clause-inside
 returns-clause-inside g c =

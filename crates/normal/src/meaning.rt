@@ -1,7 +1,7 @@
 // What a score means: a length, and placed primitives.
 ghost use Rattle.std.specs.Prelude.{◌≡◌, ◌+◌, ◌^◌, ◌<◌, ◌≤◌, ◌++◌, map, length};
 ghost use Rattle.algebra.specs.Score.{score_length, primitives, placed as placed_in, later};
-ghost use Rattle.nodes.specs.Scores.{Limited};
+ghost use Rattle.nodes.specs.Standing.{Limited};
 
 use crate::placed::{PlacedList, PlacedNumbers};
 use algebra::limits::MOST_PRIMITIVES;

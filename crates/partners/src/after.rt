@@ -3,7 +3,7 @@ ghost use Rattle.std.specs.Prelude.{◌≡◌, ◌≤◌, length as length_of};
 ghost use Rattle.algebra.specs.Bag.{ordered_after};
 ghost use Rattle.algebra.specs.Normal.{normal_after};
 ghost use Rattle.algebra.specs.Score.{score_length, primitives, same_placed};
-ghost use Rattle.nodes.specs.Scores.{Limited};
+ghost use Rattle.nodes.specs.Standing.{Limited};
 ghost use Rattle.normal.specs.Writing.{lines_of};
 
 use crate::choosing::choose;

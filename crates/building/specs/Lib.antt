@@ -1,4 +1,2 @@
 pub mod Sizes
-pub mod Changes
-pub mod Steps
 pub mod Rows

@@ -1,9 +1,4 @@
-// Scores made from one that stands in a row: changed or rewritten, within the limits of a place.
+// Scores made from others, within the limits of a place.
 #![tactic(auto)]
 
-pub mod change;
-pub mod making;
-pub mod part;
-pub mod rewrite;
 pub mod size;
-pub mod step;

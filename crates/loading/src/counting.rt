@@ -5,24 +5,17 @@ ghost use Rattle.refusals.specs.declared.refusal.Refusal.TheVariants.{TooManyInF
 ghost use Rattle.loading.specs.Counts.{Counted};
 ghost use Rattle.loading.specs.Offsets.{RefusedAt};
 
+use algebra::limits::{MOST_NODES, MOST_PRIMITIVES};
 use algebra::node::Node;
 use algebra::numbers::Numbers;
 use grammar::item::Item;
 use refusals::refusal::Refusal;
 
-// How many nodes and how many primitives a score may have.
-const NODES: usize = 1023;
-
-const PRIMITIVES: u32 = 170;
-
 // Whether a node is a primitive.
 fn is_primitive(node: Node<Numbers>) -> bool
     ensures { result ≡ holds_primitive node }
 {
-    match node {
-        Node::Primitive(_) => true,
-        Node::Rest(_) | Node::Sequence | Node::Parallel => false,
-    }
+    matches!(node, Node::Primitive(_))
 }
 
 // Counts the primitives, and refuses the first node or primitive that is one too many.
@@ -31,15 +24,15 @@ pub fn count_primitives(items: &[Item]) -> Result<u32, Refusal>
 {
     let mut count = 0;
     for (at, item) in items.iter().enumerate() {
-        if at == NODES {
+        if at == MOST_NODES {
             return Err(Refusal::TooManyInFile(item.offset));
         }
         if is_primitive(item.node) {
-            if count == PRIMITIVES {
+            if count == MOST_PRIMITIVES {
                 return Err(Refusal::TooManyInFile(item.offset));
             }
             count += 1;
         }
     }
-    Ok(count)
+    Ok(count as u32)
 }

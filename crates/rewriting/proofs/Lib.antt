@@ -1,3 +1,4 @@
 pub mod Forms
-pub mod Assembled
+pub mod Joining
 pub mod Steps
+pub mod Rewriting

@@ -1,5 +1,3 @@
-pub mod Tables
-pub mod Joins
 pub mod Plans
 pub mod Matches
 pub mod Rules

@@ -1,31 +1,26 @@
 -- What comes of a rewriting.
-use Rattle.std.specs.Prelude.{◌≡◌, ℕ, ◌<◌, ◌≤◌, List, length, Some, None, Option}
+use Rattle.std.specs.Prelude.{◌≡◌, ℕ, ◌<◌, ◌≤◌, List, ◌++◌, Some, None, Ok, Err, Option}
 use Rattle.algebra.specs.declared.numbers.Numbers.{Numbers}
 use Rattle.algebra.specs.declared.node.Node.{Node}
 use Rattle.algebra.specs.Score.{Score, nodes}
 use Rattle.algebra.specs.Layout.{preorder}
-use Rattle.nodes.specs.Rows.{Wrote}
-use Rattle.rewriting.specs.declared.rewrite.Rewriting.{Rewriting}
-use Rattle.rewriting.specs.declared.rewrite.Rewriting.TheVariants.{Done, NoFit, TooMany}
+use Rattle.refusals.specs.declared.refusal.Refusal.{Refusal}
+use Rattle.refusals.specs.declared.refusal.Refusal.TheVariants.{NoFit, TooMany}
+use Rattle.refusals.specs.Checks.{Check}
 
--- The goal is a score of n nodes, and a target that had room for them begins with them.
-pub record Written (goal : Option Score) (xs ys : List (Node Numbers)) (n : ℕ) : Type 0 where
-  pub result : Score
-  pub is : goal ≡ Some result
-  pub size : nodes result ≡ n
-  pub room : n ≤ length xs
-  pub wrote : Wrote xs ys 0 n (preorder result)
+-- A score has at most 1,023 nodes, and they are put behind those of a list.
+pub record Written (s : Score) (xs ys : List (Node Numbers)) : Type 0 where
+  pub room : nodes s ≤ 1023
+  pub row : ys ≡ xs ++ preorder s
 
--- The goal is a score of n nodes, for which a target has no room; it stays as it was.
-pub record Overfull (goal : Option Score) (xs ys : List (Node Numbers)) (n : ℕ) : Type 0 where
-  pub result : Score
-  pub is : goal ≡ Some result
-  pub size : nodes result ≡ n
-  pub over : length xs < n
+-- A score has too many nodes: it is refused with their count, and a list stays as it was.
+pub record Overfull (s : Score) (xs ys : List (Node Numbers)) (e : Refusal) : Type 0 where
+  pub over : 1023 < nodes s
+  pub refusal : e ≡ TooMany (nodes s)
   pub same : ys ≡ xs
 
--- A goal is written from the start of a target. Where there is none, or no room for it, the target stays.
-abbrev pub Rewrote : Option Score → List (Node Numbers) → List (Node Numbers) → Rewriting → Type 0
-Rewrote goal xs ys (Done n) = Written goal xs ys n
-Rewrote goal xs ys NoFit = (goal ≡ None) × (ys ≡ xs)
-Rewrote goal xs ys (TooMany n) = Overfull goal xs ys n
+-- What a step makes at a node is put into a list where it has room there. Where it makes nothing, the node is told.
+abbrev pub Rewrote : ℕ → Option Score → List (Node Numbers) → List (Node Numbers) → Check → Type 0
+Rewrote node None xs ys answer = (answer ≡ Err (NoFit node)) × (ys ≡ xs)
+Rewrote node (Some s) xs ys (Ok done) = Written s xs ys
+Rewrote node (Some s) xs ys (Err e) = Overfull s xs ys e

@@ -1,32 +1,25 @@
 // The other sides of the rules that regroup or exchange the parts of joins of one kind.
-ghost use Rattle.std.specs.Prelude.{◌<◌, length};
+ghost use Rattle.std.specs.Prelude.{◌≡◌};
+ghost use Rattle.std.specs.Option.{option_map};
 ghost use Rattle.algebra.specs.declared.rule.Rule.TheVariants.{ParallelCommutative};
 ghost use Rattle.algebra.specs.declared.rule.Way.TheVariants.{Forth, Back};
 ghost use Rattle.algebra.specs.Rewrite.{other_side};
-ghost use Rattle.rewriting.specs.Tables.{Table, standing};
-ghost use Rattle.rewriting.specs.Plans.{Planned};
+ghost use Rattle.rewriting.specs.Plans.{plan_score};
 ghost use Rattle.rewriting.specs.Rules.{associative};
 
-use crate::join::Join;
 use crate::matching::join_at;
 use crate::plan::{Piece, Pieces, Plan};
-use algebra::node::Node;
 use kinds::kind::Kind;
-use nodes::span::Span;
+use nodes::join::Join;
+use nodes::score::Score;
 
 // From ((a b) c) to (a (b c)).
-pub fn associate_forth<K: Kind>(
-    row: &[Node<K>],
-    spans: &[Span],
-    at: usize,
-    join: Join,
-) -> Option<Plan>
-    requires table { Table K.Kind.model K.Kind.numbers_of row.now spans.now }
-    requires inside { at < length row.now }
-    ensures { Planned K.Kind.numbers_of row.now result (other_side K.Kind.model (associative join) Forth 0 (standing K.Kind.numbers_of row.now at)) }
+#[tactic(auto, using(crate::proofs::Forms::associated_forth, crate::proofs::Forms::parted))]
+pub fn associate_forth<'a, K: Kind>(score: &Score<'a, K>, join: Join) -> Option<Plan<'a, K>>
+    ensures { option_map plan_score result ≡ other_side K.Kind.model (associative join) Forth 0 score.now }
 {
-    let (left, c) = join_at(row, spans, at, join)?;
-    let (a, b) = join_at(row, spans, left, join)?;
+    let (left, c) = join_at(score, join)?;
+    let (a, b) = join_at(&left, join)?;
     Some(Plan::Joined(
         join,
         Pieces::One(Piece::Part(a)),
@@ -35,18 +28,12 @@ pub fn associate_forth<K: Kind>(
 }
 
 // From (a (b c)) to ((a b) c).
-pub fn associate_back<K: Kind>(
-    row: &[Node<K>],
-    spans: &[Span],
-    at: usize,
-    join: Join,
-) -> Option<Plan>
-    requires table { Table K.Kind.model K.Kind.numbers_of row.now spans.now }
-    requires inside { at < length row.now }
-    ensures { Planned K.Kind.numbers_of row.now result (other_side K.Kind.model (associative join) Back 0 (standing K.Kind.numbers_of row.now at)) }
+#[tactic(auto, using(crate::proofs::Forms::associated_back, crate::proofs::Forms::parted))]
+pub fn associate_back<'a, K: Kind>(score: &Score<'a, K>, join: Join) -> Option<Plan<'a, K>>
+    ensures { option_map plan_score result ≡ other_side K.Kind.model (associative join) Back 0 score.now }
 {
-    let (a, right) = join_at(row, spans, at, join)?;
-    let (b, c) = join_at(row, spans, right, join)?;
+    let (a, right) = join_at(score, join)?;
+    let (b, c) = join_at(&right, join)?;
     Some(Plan::Joined(
         join,
         Pieces::Two(join, Piece::Part(a), Piece::Part(b)),
@@ -55,11 +42,9 @@ pub fn associate_back<K: Kind>(
 }
 
 // From (a|b) to (b|a).
-pub fn commute<K: Kind>(row: &[Node<K>], spans: &[Span], at: usize) -> Option<Plan>
-    requires table { Table K.Kind.model K.Kind.numbers_of row.now spans.now }
-    requires inside { at < length row.now }
-    ensures { Planned K.Kind.numbers_of row.now result (other_side K.Kind.model ParallelCommutative Forth 0 (standing K.Kind.numbers_of row.now at)) }
+pub fn commute<'a, K: Kind>(score: &Score<'a, K>) -> Option<Plan<'a, K>>
+    ensures { option_map plan_score result ≡ other_side K.Kind.model ParallelCommutative Forth 0 score.now }
 {
-    let (a, b) = join_at(row, spans, at, Join::Parallel)?;
+    let (a, b) = join_at(score, Join::Parallel)?;
     Some(Plan::Simple(Pieces::Two(Join::Parallel, Piece::Part(b), Piece::Part(a))))
 }

@@ -1,14 +1,14 @@
-// One rewriting step of a score that stands in a row of nodes, written into another row.
+// One rewriting step of a score, written into a list of nodes.
 #![tactic(auto)]
 
 mod assemble;
 mod associate;
 mod count;
 mod exchange;
-mod join;
 mod matching;
 mod plan;
 mod planning;
 mod rests;
 pub mod rewrite;
+pub mod step;
 mod units;

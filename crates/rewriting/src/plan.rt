@@ -1,23 +1,25 @@
-// Plans of a new score, made of rests and of scores that begin in a row.
-use crate::join::Join;
+// Plans of a new score, made of rests and of scores that stand in nodes.
+use kinds::kind::Kind;
+use nodes::join::Join;
+use nodes::score::Score;
 
-// A rest, or a copy of the score that begins at a node.
-#[derive(Clone, Copy)]
-pub enum Piece {
+// A rest, or a copy of a score.
+#[derive(Drop)]
+pub enum Piece<'a, K: Kind> {
     Rest(u32),
-    Part(usize),
+    Part(Score<'a, K>),
 }
 
 // One piece, or two joined.
-#[derive(Clone, Copy)]
-pub enum Pieces {
-    One(Piece),
-    Two(Join, Piece, Piece),
+#[derive(Drop)]
+pub enum Pieces<'a, K: Kind> {
+    One(Piece<'a, K>),
+    Two(Join, Piece<'a, K>, Piece<'a, K>),
 }
 
 // One or two pieces, or a join of such.
-#[derive(Clone, Copy)]
-pub enum Plan {
-    Simple(Pieces),
-    Joined(Join, Pieces, Pieces),
+#[derive(Drop)]
+pub enum Plan<'a, K: Kind> {
+    Simple(Pieces<'a, K>),
+    Joined(Join, Pieces<'a, K>, Pieces<'a, K>),
 }

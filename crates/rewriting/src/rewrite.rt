@@ -1,56 +1,39 @@
-// One rewriting step of the score that a row is.
-ghost use Rattle.std.specs.Prelude.{◌<◌, ◌≤◌, length};
-ghost use Rattle.algebra.specs.Layout.{view, score_of};
+// One rewriting step of a score.
+ghost use Rattle.std.specs.Prelude.{◌≡◌, ◌<◌, []};
+ghost use Rattle.algebra.specs.Score.{nodes};
 ghost use Rattle.algebra.specs.Rewrite.{rewritten};
-ghost use Rattle.nodes.specs.Held.{Held};
-ghost use Rattle.nodes.specs.Spans.{Spanned};
 ghost use Rattle.rewriting.specs.Rewritings.{Rewrote};
 
-use crate::assemble::assemble;
-use crate::count::count;
 use crate::planning::plan;
-use algebra::node::Node;
-use algebra::rule::{Rule, Way};
+use crate::step::Step;
+use algebra::limits::MOST_NODES;
 use kinds::kind::Kind;
-use nodes::span::Span;
-use nodes::write::copy_nodes;
+use nodes::list::NodeList;
+use nodes::score::Score;
+use refusals::refusal::Refusal;
 
-// What came of a rewriting: so many nodes are written, the rule does not fit, or its result has so many nodes that there is no room.
-#[derive(Clone, Copy)]
-pub enum Rewriting {
-    Done(usize),
-    NoFit,
-    TooMany(u32),
-}
-
-// Writes the score that a row is, with the other side of a rule put at a node, to the start of a target.
+// Puts a score into an empty list, with the other side of a step's rule at a node, where the rule fits there and the list has room.
 pub fn rewrite_into<K: Kind>(
-    row: &[Node<K>],
-    spans: &[Span],
-    node: usize,
-    rule: Rule,
-    way: Way,
-    split: u32,
-    target: &mut [Node<K>],
-) -> Rewriting
-    requires held { Held (view K.Kind.numbers_of row.now) }
-    requires inside { node < length row.now }
-    requires room { length row.now ≤ length spans.now }
-    requires spanned { Spanned K.Kind.model (view K.Kind.numbers_of row.now) spans.now 0 }
-    ensures { Rewrote (rewritten K.Kind.model rule way split node (score_of (view K.Kind.numbers_of row.now))) (view K.Kind.numbers_of target.old) (view K.Kind.numbers_of target.new) result }
+    score: &Score<'_, K>,
+    node: u32,
+    step: Step,
+    out: &mut NodeList<K>,
+) -> Result<(), Refusal>
+    requires inside { node < nodes score.now }
+    requires empty { out.old ≡ [] }
+    ensures { Rewrote node (rewritten K.Kind.model step.rule step.way step.split node score.now) out.old out.new result }
 {
-    let Some(plan) = plan(row, spans, node, rule, way, split) else {
-        return Rewriting::NoFit;
-    };
-    let old = spans[node];
-    let after = node + old.nodes as usize;
-    let behind = row.len() - after;
-    let total = node + count(row, spans, plan) + behind;
-    if total > target.len() {
-        return Rewriting::TooMany(total as u32);
+    let at = node as usize;
+    let part = score.part(at);
+    let after = at + part.count();
+    let plan = plan(part, step).ok_or(Refusal::NoFit(node))?;
+    let total = at + plan.count() + score.count() - after;
+    if total > MOST_NODES {
+        return Err(Refusal::TooMany(total as u32));
     }
-    copy_nodes(row, 0, node, target, 0);
-    let middle = assemble(row, spans, plan, target, node);
-    let end = copy_nodes(row, after, behind, target, middle);
-    Rewriting::Done(end)
+    let nodes = score.nodes();
+    out.extend(&nodes[..at]);
+    plan.write_into(out);
+    out.extend(&nodes[after..]);
+    Ok(())
 }

@@ -1,56 +1,58 @@
-// The other sides of the rules by which the rest of length 0 is left out or put in.
-ghost use Rattle.std.specs.Prelude.{◌≡◌, ◌<◌, length};
-ghost use Rattle.algebra.specs.declared.rule.Rule.TheVariants.{SequenceUnitLeft};
-ghost use Rattle.algebra.specs.declared.rule.Way.TheVariants.{Forth};
+// The other sides of the rules by which a rest that changes nothing is left out or put in.
+ghost use Rattle.std.specs.Prelude.{◌≡◌};
+ghost use Rattle.std.specs.Option.{option_map};
+ghost use Rattle.algebra.specs.declared.rule.Way.TheVariants.{Forth, Back};
 ghost use Rattle.algebra.specs.Rewrite.{other_side};
-ghost use Rattle.rewriting.specs.Tables.{Table, standing};
-ghost use Rattle.rewriting.specs.Plans.{Planned};
-ghost use Rattle.rewriting.specs.Rules.{unit_right};
+ghost use Rattle.rewriting.specs.Plans.{plan_score};
+ghost use Rattle.rewriting.specs.Rules.{unit_left, unit_right, left_ticks};
 
-use crate::join::Join;
-use crate::matching::{join_at, rest_at, when};
+use crate::matching::{join_at, rest_at};
 use crate::plan::{Piece, Pieces, Plan};
-use algebra::node::Node;
 use kinds::kind::Kind;
-use nodes::span::Span;
+use nodes::join::Join;
+use nodes::score::Score;
 
-// From (r0+a) to a.
-pub fn without_left<K: Kind>(row: &[Node<K>], spans: &[Span], at: usize) -> Option<Plan>
-    requires table { Table K.Kind.model K.Kind.numbers_of row.now spans.now }
-    requires inside { at < length row.now }
-    ensures { Planned K.Kind.numbers_of row.now result (other_side K.Kind.model SequenceUnitLeft Forth 0 (standing K.Kind.numbers_of row.now at)) }
+// How long the rest before a score is that changes nothing: none in sequence, and beside it as long as the score.
+fn ticks_before<K: Kind>(score: &Score<'_, K>, join: Join) -> u32
+    ensures { result ≡ left_ticks K.Kind.model join score.now }
 {
-    let (unit, a) = join_at(row, spans, at, Join::Sequence)?;
-    let ticks = rest_at(row, spans, unit)?;
-    when(ticks == 0, Plan::Simple(Pieces::One(Piece::Part(a))))
+    match join {
+        Join::Sequence => 0,
+        Join::Parallel => score.length(),
+    }
+}
+
+// From (r0+a) to a, or from (rn|a) to a, where n is the length of a.
+#[tactic(auto, using(crate::proofs::Forms::unit_left_lem, crate::proofs::Forms::parted))]
+pub fn without_left<'a, K: Kind>(score: &Score<'a, K>, join: Join) -> Option<Plan<'a, K>>
+    ensures { option_map plan_score result ≡ other_side K.Kind.model (unit_left join) Forth 0 score.now }
+{
+    let (unit, a) = join_at(score, join)?;
+    let ticks = rest_at(&unit)?;
+    (ticks == ticks_before(&a, join)).then_some(Plan::Simple(Pieces::One(Piece::Part(a))))
 }
 
 // From (a r0) to a.
-pub fn without_right<K: Kind>(
-    row: &[Node<K>],
-    spans: &[Span],
-    at: usize,
-    join: Join,
-) -> Option<Plan>
-    requires table { Table K.Kind.model K.Kind.numbers_of row.now spans.now }
-    requires inside { at < length row.now }
-    ensures { Planned K.Kind.numbers_of row.now result (other_side K.Kind.model (unit_right join) Forth 0 (standing K.Kind.numbers_of row.now at)) }
+#[tactic(auto, using(crate::proofs::Forms::unit_right_lem, crate::proofs::Forms::parted))]
+pub fn without_right<'a, K: Kind>(score: &Score<'a, K>, join: Join) -> Option<Plan<'a, K>>
+    ensures { option_map plan_score result ≡ other_side K.Kind.model (unit_right join) Forth 0 score.now }
 {
-    let (a, unit) = join_at(row, spans, at, join)?;
-    let ticks = rest_at(row, spans, unit)?;
-    when(ticks == 0, Plan::Simple(Pieces::One(Piece::Part(a))))
+    let (a, unit) = join_at(score, join)?;
+    let ticks = rest_at(&unit)?;
+    (ticks == 0).then_some(Plan::Simple(Pieces::One(Piece::Part(a))))
 }
 
-// From a to (rn a).
-pub fn with_left(at: usize, join: Join, ticks: u32) -> Plan
-    ensures { result ≡ Plan.Simple (Pieces.Two join (Piece.Rest ticks) (Piece.Part at)) }
+// From a to (r0+a), or to (rn|a), where n is the length of a.
+pub fn with_left<'a, K: Kind>(score: Score<'a, K>, join: Join) -> Option<Plan<'a, K>>
+    ensures { option_map plan_score result ≡ other_side K.Kind.model (unit_left join) Back 0 score.entry }
 {
-    Plan::Simple(Pieces::Two(join, Piece::Rest(ticks), Piece::Part(at)))
+    let ticks = ticks_before(&score, join);
+    Some(Plan::Simple(Pieces::Two(join, Piece::Rest(ticks), Piece::Part(score))))
 }
 
 // From a to (a r0).
-pub fn with_right(at: usize, join: Join) -> Plan
-    ensures { result ≡ Plan.Simple (Pieces.Two join (Piece.Part at) (Piece.Rest 0)) }
+pub fn with_right<'a, K: Kind>(score: Score<'a, K>, join: Join) -> Option<Plan<'a, K>>
+    ensures { option_map plan_score result ≡ other_side K.Kind.model (unit_right join) Back 0 score.entry }
 {
-    Plan::Simple(Pieces::Two(join, Piece::Part(at), Piece::Rest(0)))
+    Some(Plan::Simple(Pieces::Two(join, Piece::Part(score), Piece::Rest(0))))
 }

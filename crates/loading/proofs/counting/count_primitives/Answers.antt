@@ -4,14 +4,14 @@ use Rattle.grammar.specs.Loads.{holds_primitive, excess}
 use Rattle.loading.specs.Counts.{primitive_items}
 use Rattle.loading.proofs.Steps.{item_at, no_node, no_primitive, one_primitive, one_other, counted_primitive, counted_other}
 use Rattle.loading.proofs.counting.count_primitives.Goals as goal
-use Rattle.loading.proofs.counting.count_primitives.Goals.{then-is_primitive+else-count-eq-PRIMITIVES, else-is_primitive}
+use Rattle.loading.proofs.counting.count_primitives.Goals.{then-is_primitive+else-count-eq-MOST_PRIMITIVES, else-is_primitive}
 
-pub returns-then-at-eq-NODES : goal.returns-then-at-eq-NODES
-returns-then-at-eq-NODES c =
+pub returns-then-at-eq-MOST_NODES : goal.returns-then-at-eq-MOST_NODES
+returns-then-at-eq-MOST_NODES c =
     (_, sym c.loop-at.invariant.3 ∙ no_node c.args.items.now c.loop-at.at c.loop-at-test.true _ _ (omega arith), refl)
 
-pub returns-then-count-eq-PRIMITIVES : goal.returns-then-count-eq-PRIMITIVES
-returns-then-count-eq-PRIMITIVES c =
+pub returns-then-count-eq-MOST_PRIMITIVES : goal.returns-then-count-eq-MOST_PRIMITIVES
+returns-then-count-eq-MOST_PRIMITIVES c =
     let e : holds_primitive (item_at c.args.items.now c.loop-at.at).node ≡ true = cc in
     (_, sym c.loop-at.invariant.3 ∙ no_primitive c.args.items.now c.loop-at.at c.loop-at-test.true _ _ e (omega arith), refl)
 
@@ -24,7 +24,7 @@ loop-at-preserved c =
     let node = (item_at is at).node in
     let next : 1023 - at - 1 ≡ 1023 - (at + 1) = omega arith in
     elim c.if-is_primitive.branch [
-      | then-is_primitive+else-count-eq-PRIMITIVES w ↦
+      | then-is_primitive+else-count-eq-MOST_PRIMITIVES w ↦
           let e : holds_primitive node ≡ true = cc in
           let fewer : 170 - count - 1 ≡ 170 - c.if-is_primitive.count = omega (arith, w.count-is) in (
             omega arith,

@@ -1,60 +1,63 @@
-use Rattle.std.proofs.Common.{refl, arith}
-use Rattle.std.proofs.lemmas.List.{length-map}
-use Rattle.algebra.specs.Layout.{seen, view}
+use Rattle.std.proofs.Common.{◌+◌, ◌-◌, ◌++◌, Err, length, take, drop, rules, sym, ap, ◌∙◌, arith}
+use Rattle.std.proofs.lemmas.List.{length-map, length-take, length-take-le, length-drop}
+use Rattle.std.proofs.lemmas.Result.{err_from_is_err_and}
+use Rattle.algebra.specs.Layout.{seen, view, preorder}
+use Rattle.nodes.proofs.Lists.{put_long}
 use Rattle.nodes.proofs.Parts.{length_preorder}
 use Rattle.rewriting.specs.Plans.{plan_score}
-use Rattle.rewriting.specs.Tables.{Table}
-use Rattle.rewriting.proofs.Steps.{part_inside, step_none, overfull, written}
+use Rattle.rewriting.proofs.Steps.{nodes_long}
+use Rattle.rewriting.proofs.Rewriting.{front, back, no_fit, too_many, put}
 use Rattle.rewriting.proofs.rewrite.rewrite_into.Goals as goal
 
-pub returns-in_default : goal.returns-in_default
-returns-in_default g c =
-    let f = g.K.Kind.numbers_of in
-    let row = c.args.row.now in
-    let table : Table g.K.Kind.model f row c.args.spans.now = record { held = c.requires.held; room = c.requires.room; spanned = c.requires.spanned } in
-    (step_none g.K.Kind.model f row c.args.spans.now table c.args.node c.requires.inside c.args.rule c.args.way c.args.split c.in_default.ensures, refl)
+pub returns-in_err-plan : goal.returns-in_err-plan
+returns-in_err-plan g c =
+    let (e, is, from) = err_from_is_err_and c.from_residual.result c.from_residual.ensures.1 in
+    no_fit g.K.Kind.model c.args.step.rule c.args.step.way c.args.step.split c.args.score.now c.part-part.result c.args.node c.requires.inside c.part-part.ensures.part c.plan.result c.plan.ensures c.args.out.now
+    c.in_err-plan.field-0.0 c.in_err-plan.ensures.value c.from_residual.result (is ∙ ap Err from)
 
-pub overflow_sub-behind : goal.overflow_sub-behind
-overflow_sub-behind g c =
-    let f = g.K.Kind.numbers_of in
-    let row = c.args.row.now in
-    let table : Table g.K.Kind.model f row c.args.spans.now = record { held = c.requires.held; room = c.requires.room; spanned = c.requires.spanned } in
-    part_inside g.K.Kind.model f row c.args.spans.now table c.args.node c.requires.inside
+pub returns-then-total-gt-MOST_NODES : goal.returns-then-total-gt-MOST_NODES
+returns-then-total-gt-MOST_NODES g c =
+    too_many g.K.Kind.model c.args.step.rule c.args.step.way c.args.step.split c.args.score.now c.part-part.result c.args.node c.requires.inside c.part-part.ensures.part c.plan.result c.plan.ensures c.args.out.now
+    c.in_ok-plan.plan c.in_ok-plan.ensures.value _ (omega arith) c.if-total-gt-MOST_NODES.true
 
-pub overflow_cast-result : goal.overflow_cast-result
-overflow_cast-result g c = omega (arith, c.count.ensures.few, c.requires.inside, c.requires.held.small, length-map c.args.row.now (seen g.K.Kind.numbers_of))
+pub slice_bounds-extend-end : goal.slice_bounds-extend-end
+slice_bounds-extend-end g c = let long = nodes_long g.K.Kind.numbers_of c.nodes-nodes.result.now c.args.score.now c.nodes-nodes.ensures.nodes in sym (length-take-le c.args.node c.nodes-nodes.result.now (omega arith))
 
-pub returns-then-total-target : goal.returns-then-total-target
-returns-then-total-target g c =
-    let f = g.K.Kind.numbers_of in
-    let row = c.args.row.now in
-    let table : Table g.K.Kind.model f row c.args.spans.now = record { held = c.requires.held; room = c.requires.room; spanned = c.requires.spanned } in
-    overfull g.K.Kind.model f row c.args.spans.now table c.args.node c.requires.inside c.args.rule c.args.way c.args.split c.in-Some.plan c.in-Some.ensures (view f c.args.target.now) _
-    (omega (arith, c.count.ensures.is)) (omega (arith, length-map c.args.target.now (seen f), c.if-total-target.true))
+pub offset_bounds-nodes-after : goal.offset_bounds-nodes-after
+offset_bounds-nodes-after g c = let long = nodes_long g.K.Kind.numbers_of c.nodes-nodes.result.now c.args.score.now c.nodes-nodes.ensures.nodes in omega arith
 
-pub assemble-middle-requires : goal.assemble-middle-requires
-assemble-middle-requires g c =
-    let f = g.K.Kind.numbers_of in
-    let row = c.args.row.now in
-    let table : Table g.K.Kind.model f row c.args.spans.now = record { held = c.requires.held; room = c.requires.room; spanned = c.requires.spanned } in
-    let size = length_preorder (plan_score (view f row) c.in-Some.plan) in
-    record { table = table; inside = c.in-Some.ensures.1; fits = omega (arith, size, c.count.ensures.is, c.if-total-target.false, c.copy_nodes.auto.target) }
+pub slice_bounds-extend-count : goal.slice_bounds-extend-count
+slice_bounds-extend-count g c = let long = nodes_long g.K.Kind.numbers_of c.nodes-nodes.result.now c.args.score.now c.nodes-nodes.ensures.nodes in omega arith
 
-pub copy_nodes-end-requires : goal.copy_nodes-end-requires
-copy_nodes-end-requires g c =
-    let f = g.K.Kind.numbers_of in
-    let row = c.args.row.now in
-    let table : Table g.K.Kind.model f row c.args.spans.now = record { held = c.requires.held; room = c.requires.room; spanned = c.requires.spanned } in
-    let size = length_preorder (plan_score (view f row) c.in-Some.plan) in
-    record {
-      within = omega (arith, part_inside g.K.Kind.model f row c.args.spans.now table c.args.node c.requires.inside);
-      fits = omega (arith, size, c.count.ensures.is, c.if-total-target.false, c.assemble-middle.ensures.ends, c.copy_nodes.auto.target, c.assemble-middle.auto.target);
-    }
+pub slice_bounds-extend-start : goal.slice_bounds-extend-start
+slice_bounds-extend-start g c = let long = nodes_long g.K.Kind.numbers_of c.nodes-nodes.result.now c.args.score.now c.nodes-nodes.ensures.nodes in search rules
+
+pub extend-requires-2 : goal.extend-requires-2
+extend-requires-2 g c =
+    let row = c.nodes-nodes.result.now in
+    let long = nodes_long g.K.Kind.numbers_of row c.args.score.now c.nodes-nodes.ensures.nodes in
+    let start = put_long c.args.out.now (view g.K.Kind.numbers_of (take c.args.node row)) c.extend.ensures in
+    let middle = put_long c.extend.new.self (preorder (plan_score c.in_ok-plan.plan)) c.write_into.ensures in
+    let after = c.args.node + c.count.result in (
+      search rules,
+      omega (
+        arith,
+        ap length c.requires.empty,
+        length-map (take c.args.node row) (seen g.K.Kind.numbers_of),
+        length-take-le c.args.node row (omega arith),
+        length_preorder (plan_score c.in_ok-plan.plan),
+        length-take (length row - after) (drop after row),
+        length-drop after row,
+      ),
+    )
 
 pub returns : goal.returns
 returns g c =
     let f = g.K.Kind.numbers_of in
-    let row = c.args.row.now in
-    let table : Table g.K.Kind.model f row c.args.spans.now = record { held = c.requires.held; room = c.requires.room; spanned = c.requires.spanned } in
-    written g.K.Kind.model f row c.args.spans.now table c.args.node c.requires.inside c.args.rule c.args.way c.args.split c.in-Some.plan c.in-Some.ensures (view f c.args.target.now) _ _ _ _ _ _
-    (omega (arith, length-map c.args.target.now (seen f), c.count.ensures.is, c.if-total-target.false)) c.copy_nodes.ensures c.assemble-middle.ensures c.copy_nodes-end.ensures
+    let s = c.args.score.now in
+    let row = c.nodes-nodes.result.now in
+    let is = c.nodes-nodes.ensures.nodes in
+    put g.K.Kind.model c.args.step.rule c.args.step.way c.args.step.split s c.part-part.result c.args.node c.requires.inside c.part-part.ensures.part c.plan.result c.plan.ensures c.args.out.now
+    c.in_ok-plan.plan c.in_ok-plan.ensures.value (c.args.node + c.count-2.result + c.count-3.result - (c.args.node + c.count.result)) (omega arith) c.if-total-gt-MOST_NODES.false
+    c.extend.new.self c.write_into.new.out c.extend-2.new.self (c.extend.ensures ∙ ap (λ us. c.args.out.now ++ us) (front f row s is c.args.node)) c.write_into.ensures
+    (c.extend-2.ensures ∙ ap (λ us. c.write_into.new.out ++ us) (back f row s is (c.args.node + c.count.result) ∙ ap (λ n. drop (c.args.node + n) (preorder s)) c.count.ensures.nodes))

@@ -14,7 +14,7 @@ use Rattle.rack.proofs.rack.Rack.load.Goals as goal
 pub place-requires : goal.place-requires
 place-requires g c =
     let rack = c.args.self.now in
-    let given = subst (λ is. Given g.K.Kind.model c.args.reading.text.now is c.in_ok-loaded.loaded) (sym c.items.ensures) c.in_ok-loaded.ensures in
+    let given = subst (λ is. Given g.K.Kind.model c.args.reading.text.now is c.in_ok-loaded.loaded) (sym c.items.ensures.same) c.in_ok-loaded.ensures in
     record { legal = given.legal; room = items_fit g.K.Kind.model _ _ _ given rack.row.nodes.now c.args.to c.in_ok-known.ensures.within }
 
 pub invariant_of-self : goal.invariant_of-self
@@ -22,7 +22,7 @@ invariant_of-self g c =
     let rack = c.args.self.now in
     let f = g.K.Kind.numbers_of in
     let K = g.K.Kind.model in
-    let given = subst (λ is. Given K c.args.reading.text.now is c.in_ok-loaded.loaded) (sym c.items.ensures) c.in_ok-loaded.ensures in
+    let given = subst (λ is. Given K c.args.reading.text.now is c.in_ok-loaded.loaded) (sym c.items.ensures.same) c.in_ok-loaded.ensures in
     score_sound K f rack _ c.args.to given.score _ c.in_ok-known.ensures.within
     (c.place.ensures ∙ ap (overlaid (view f rack.row.nodes.now) (c.args.to * 1023)) given.laid) (fits K _ _ _ given) (noted K _ _ _ given)
 
@@ -33,7 +33,7 @@ returns g c =
     let K = g.K.Kind.model in
     let xs = view f rack.row.nodes.now in
     let to = c.args.to in
-    let given = subst (λ is. Given K c.args.reading.text.now is c.in_ok-loaded.loaded) (sym c.items.ensures) c.in_ok-loaded.ensures in
+    let given = subst (λ is. Given K c.args.reading.text.now is c.in_ok-loaded.loaded) (sym c.items.ensures.same) c.in_ok-loaded.ensures in
     let h : to < number xs = omega (arith, number_view f rack.row.nodes.now, c.in_ok-known.ensures.within) in
     let free = vacant_yes (shelf_of xs rack.places) to (at_empty xs rack.places to h c.in_ok-vacant.ensures.empty) in
     record {

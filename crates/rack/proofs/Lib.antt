@@ -4,3 +4,5 @@ pub mod Loading
 pub mod Writing
 pub mod Joining
 pub mod Room
+pub mod Comparing
+pub mod NormalFiles

@@ -1,5 +1,5 @@
 -- What a rack's places hold, by its nodes and its notes.
-use Rattle.std.proofs.Common.{◌≡◌, ℕ, zero, suc, ◌+◌, ◌*◌, ◌/◌, ◌<◌, ◌≤◌, min, cond, not, List, [], ◌∷◌, map, length, get_or, take, drop, replicate, is_some, Some, None, Ok, Err, Option, sym, refl, ap, ◌∙◌, subst, ⊎_elim, arith}
+use Rattle.std.proofs.Common.{◌≡◌, ℕ, zero, suc, ◌+◌, ◌*◌, ◌/◌, ◌<◌, ◌≤◌, min, cond, not, List, [], ◌∷◌, ◌++◌, map, length, get_or, take, drop, replicate, is_some, Some, None, Ok, Err, Option, sym, refl, ap, ◌∙◌, subst, ⊎_elim, arith}
 use Rattle.std.specs.List.{range_with_len}
 use Rattle.std.proofs.lemmas.List.FromFn.{length-map-range_with_len, get_or-map-range_with_len}
 use Rattle.std.proofs.lemmas.Bool.{cases_lt}
@@ -10,9 +10,12 @@ use Rattle.algebra.specs.declared.node.Node.{Node}
 use Rattle.algebra.specs.Kind.{KindModel}
 use Rattle.algebra.specs.Score.{Score}
 use Rattle.algebra.specs.Layout.{seen, view, score_of}
+use Rattle.algebra.specs.Limits.{Fits, Holdable}
+use Rattle.nodes.specs.Standing.{Limited}
 use Rattle.nodes.proofs.Shapes.{score_preorder}
 use Rattle.refusals.specs.declared.refusal.Refusal.TheVariants.{NoSuchPlace, EmptyPlace, FullPlace}
-use Rattle.refusals.specs.Checks.{passed, unless}
+use Rattle.refusals.specs.declared.refusal.Refusal.{Refusal}
+use Rattle.refusals.specs.Checks.{Check, passed, unless, all}
 use Rattle.rack.specs.declared.place.Place.{Place}
 use Rattle.rack.specs.Places.{number, used, place_at, held_at, shelf, Noted, Sound}
 use Rattle.rack.specs.Shelves.{Shelf, at}
@@ -78,3 +81,13 @@ shelf_start f ns = all_none _ (λ p. ap (held_at (view f ns) p) (none_noted 8 p)
 -- the nodes of a place's segment that code lends
 pub lent_used : {P : Type 0} (f : P → Numbers) (ns : List (Node P)) (p n : ℕ) {row : List (Node P)} → row ≡ take n (drop (p * 1023) ns) → view f row ≡ used (view f ns) p n
 lent_used f ns p n e = ap (view f) e ∙ sym (take-map (seen f) n (drop (p * 1023) ns)) ∙ ap (take n) (sym (drop-map (seen f) (p * 1023) ns))
+
+-- checks that fail, whatever others say behind them
+pub all_first : (xs ys : List Check) (e : Refusal) → Err e ≡ all xs → Err e ≡ all (xs ++ ys)
+all_first [] ys e h = absurd (grind arith)
+all_first (Ok u ∷ xs) ys e h = all_first xs ys e h
+all_first (Err e' ∷ xs) ys e h = h
+
+-- a score that a place has room for may be held
+pub holdable : (K : KindModel) {s t : Score} → s ≡ t → Limited K t → Fits K t → Holdable K s
+holdable K e l f = subst (Holdable K) (sym e) (record { legal = l.legal; fits = f })

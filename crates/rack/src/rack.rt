@@ -6,7 +6,11 @@ use std::marker::Model;
 
 mod build;
 mod calls;
+mod change;
+mod compare;
+mod draw;
 mod places;
+mod rewrite;
 
 // Scores at up to 8 places. In clauses a rack is the list of what its places hold: each a score, or none.
 #[derive(Drop)]

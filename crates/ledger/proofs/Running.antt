@@ -10,9 +10,9 @@ use Rattle.rack.specs.Shelves.{Shelf}
 use Rattle.rack.specs.Calls.{load_answer}
 use Rattle.ledger.specs.declared.call.Call.{Call}
 use Rattle.ledger.specs.declared.call.Call.TheVariants as call
-use Rattle.ledger.specs.declared.call.Answer.{Answer}
-use Rattle.ledger.specs.Ledgers.{Ledger, blank, Accepted, refused, Entered, Kept}
-use Rattle.ledger.specs.Runs.{RendererAt, renderer_at, State, done_of, Did, Ran}
+use Rattle.ledger.specs.Answers.{Answer, refused, done_of}
+use Rattle.ledger.specs.Ledgers.{Ledger, blank, Accepted, Entered, Kept}
+use Rattle.ledger.specs.Runs.{RendererAt, renderer_at, State, Did, Ran}
 use Rattle.ledger.specs.Stands.{Stands}
 use Rattle.ledger.proofs.Standing.{agrees_by, step}
 

@@ -29,17 +29,17 @@ fn play_on<K: Kind + Clone>(
 
 fn run(rt: &HostRuntime) -> anyhow::Result<()> {
     let lines: Vec<String> = rt.lines(rt.alloc()).try_collect(rt.alloc())?;
-    let Some((i, line)) = lines.iter().enumerate().find(|(_, line)| !skipped(line)) else {
+    let Some(first) = lines.iter().position(|line| !skipped(line)) else {
         return Ok(());
     };
-    let words: Vec<&str> = line.split(' ').collect(rt.alloc())?;
+    let words: Vec<&str> = lines[first].split(' ').collect(rt.alloc())?;
     match parse_opening(&words) {
-        Some((kind, places)) if kind == Note::name() => play_on::<Note>(rt, &lines, i + 1, places),
-        Some((kind, places)) if kind == Clip::name() => play_on::<Clip>(rt, &lines, i + 1, places),
+        Some(("note", places)) => play_on::<Note>(rt, &lines, first + 1, places),
+        Some(("clip", places)) => play_on::<Clip>(rt, &lines, first + 1, places),
         _ => {
             println!(rt;
                 "line {}: a script begins with `rack note PLACES` or `rack clip PLACES`",
-                i + 1
+                first + 1
             )?;
             Ok(())
         }

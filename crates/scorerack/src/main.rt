@@ -15,7 +15,7 @@ use kinds::kind::Kind;
 use kinds::note::Note;
 
 // Plays the rest of a script on a rack with memory for some places; a rack has 8 at most.
-fn play_on<K: Kind + Clone>(
+fn play_on<K: Kind>(
     rt: &HostRuntime,
     lines: &[String],
     first: usize,

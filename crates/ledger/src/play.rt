@@ -15,7 +15,7 @@ use refusals::refusal::Refusal;
 use render::renderer::Renderer;
 
 // Reads the head of a text, and loads what follows.
-pub fn load<'a, K: Kind>(rack: &mut Rack<'_, K>, to: u32, text: &'a [u8]) -> Result<(), Refusal>
+pub fn load<K: Kind>(rack: &mut Rack<'_, K>, to: u32, text: &[u8]) -> Result<(), Refusal>
     ensures { LoadedAt K.Kind.model text.now to (shelf K.Kind.numbers_of rack.old) (shelf K.Kind.numbers_of rack.new) result }
 {
     let headed = FreshReading::new(text).read_head()?;
@@ -30,9 +30,9 @@ fn done(_nothing: ()) -> Reply
 }
 
 // Makes one call.
-pub fn make_call<'a, K: Kind, R: Renderer>(
+pub fn make_call<K: Kind, R: Renderer>(
     rack: &mut Rack<'_, K>,
-    call: Call<'a>,
+    call: Call<'_>,
     buffer: &mut [u8],
     renderer: &mut R,
 ) -> Result<Reply, Refusal>
@@ -71,9 +71,9 @@ pub fn make_call<'a, K: Kind, R: Renderer>(
 }
 
 // Makes calls one after the other, as many as the row of answers has room for, and writes their answers into it.
-pub fn play_on<'a, K: Kind, R: Renderer>(
+pub fn play_on<K: Kind, R: Renderer>(
     rack: &mut Rack<'_, K>,
-    calls: &[Call<'a>],
+    calls: &[Call<'_>],
     answers: &mut [Result<Reply, Refusal>],
     buffer: &mut [u8],
     renderer: &mut R,
@@ -90,9 +90,9 @@ pub fn play_on<'a, K: Kind, R: Renderer>(
 }
 
 // Makes a rack in the nodes that the caller brings, and makes calls on it, one after the other, as many as the row of answers has room for.
-pub fn play<'a, 'b, K: Kind, R: Renderer>(
+pub fn play<'a, K: Kind, R: Renderer>(
     nodes: &'a mut [Node<K>],
-    calls: &[Call<'b>],
+    calls: &[Call<'_>],
     answers: &mut [Result<Reply, Refusal>],
     buffer: &mut [u8],
     renderer: &mut R,

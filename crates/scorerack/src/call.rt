@@ -5,7 +5,7 @@ use ledger::call::Call;
 // What a line of a script asks for.
 #[derive(Clone, Copy)]
 pub enum Line<'a> {
-    // A call of numbers alone.
+    // A call that needs neither a buffer nor a renderer.
     Plain(Call<'static>),
     // The file that a call writes, in a buffer of so many bytes.
     Written(Call<'static>, u32),
@@ -26,8 +26,16 @@ fn number(word: &str) -> Option<u32> {
     word.parse::<u32>().ok()
 }
 
-// The numbers that words are, if they are numbers, and no more than a call has.
-fn numbers(words: &[&str]) -> Option<ArrayVec<u32, 5>> {
+// The kind and the number of places that a script's first line names, if it asks for a rack.
+pub fn parse_opening<'a>(words: &[&'a str]) -> Option<(&'a str, u32)> {
+    match words {
+        ["rack", kind, places] => Some((*kind, number(*places)?)),
+        _ => None,
+    }
+}
+
+// The numbers that words are, if they are numbers, and no more than a rewriting has.
+fn parse_numbers(words: &[&str]) -> Option<ArrayVec<u32, 5>> {
     let mut numbers = ArrayVec::new();
     for word in words {
         numbers.try_push(number(*word)?).ok()?;
@@ -35,12 +43,29 @@ fn numbers(words: &[&str]) -> Option<ArrayVec<u32, 5>> {
     Some(numbers)
 }
 
-// The kind and the number of places that a script's first line names, if it asks for a rack.
-pub fn parse_opening<'a>(words: &[&'a str]) -> Option<(&'a str, u32)> {
-    match words {
-        ["rack", kind, places] => Some((*kind, number(*places)?)),
-        _ => None,
-    }
+// The call of a name and numbers that needs nothing else.
+fn parse_plain(name: &str, numbers: &[u32]) -> Option<Call<'static>> {
+    let call = match (name, numbers) {
+        ("rest", &[to, ticks]) => Call::Rest { to, ticks },
+        ("seq", &[to, first, second]) => Call::JoinSequence { to, first, second },
+        ("par", &[to, first, second]) => Call::JoinParallel { to, first, second },
+        ("reverse", &[to, from]) => Call::Reverse { to, from },
+        ("take", &[to, from, ticks]) => Call::Take { to, from, ticks },
+        ("drop", &[to, from, ticks]) => Call::Drop { to, from, ticks },
+        ("normalise", &[to, from]) => Call::Normalise { to, from },
+        ("rewrite", &[place, node, rule, way, split]) => Call::Rewrite {
+            place,
+            node,
+            rule,
+            way,
+            split,
+        },
+        ("clear", &[place]) => Call::Clear { place },
+        ("tell", &[place]) => Call::Tell { place },
+        ("compare", &[first, second]) => Call::Compare { first, second },
+        _ => return None,
+    };
+    Some(call)
 }
 
 // What a line's words ask for, if they are a call.
@@ -52,25 +77,8 @@ pub fn parse<'a>(words: &[&'a str]) -> Option<Line<'a>> {
         });
     }
     let (name, others) = words.split_first()?;
-    let numbers = numbers(others)?;
+    let numbers = parse_numbers(others)?;
     let line = match (*name, numbers.as_slice()) {
-        ("rest", &[to, ticks]) => Line::Plain(Call::Rest { to, ticks }),
-        ("seq", &[to, first, second]) => Line::Plain(Call::JoinSequence { to, first, second }),
-        ("par", &[to, first, second]) => Line::Plain(Call::JoinParallel { to, first, second }),
-        ("reverse", &[to, from]) => Line::Plain(Call::Reverse { to, from }),
-        ("take", &[to, from, ticks]) => Line::Plain(Call::Take { to, from, ticks }),
-        ("drop", &[to, from, ticks]) => Line::Plain(Call::Drop { to, from, ticks }),
-        ("normalise", &[to, from]) => Line::Plain(Call::Normalise { to, from }),
-        ("rewrite", &[place, node, rule, way, split]) => Line::Plain(Call::Rewrite {
-            place,
-            node,
-            rule,
-            way,
-            split,
-        }),
-        ("clear", &[place]) => Line::Plain(Call::Clear { place }),
-        ("tell", &[place]) => Line::Plain(Call::Tell { place }),
-        ("compare", &[first, second]) => Line::Plain(Call::Compare { first, second }),
         ("write", &[place, room]) => Line::Written(Call::Write { place }, room),
         ("write_normal", &[place, model, room]) => {
             Line::Written(Call::WriteNormal { place, model }, room)
@@ -81,7 +89,7 @@ pub fn parse<'a>(words: &[&'a str]) -> Option<Line<'a>> {
             width,
             cells,
         },
-        _ => return None,
+        (name, numbers) => Line::Plain(parse_plain(name, numbers)?),
     };
     Some(line)
 }

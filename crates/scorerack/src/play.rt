@@ -11,7 +11,7 @@ use rack::rack::Rack;
 use render::roll::Roll;
 use std::fs;
 
-// Makes a call that needs no buffer and no renderer.
+// Makes a call that needs neither a buffer nor a renderer, and says what it answers.
 fn make_plain<K: Kind>(
     rt: &HostRuntime,
     rack: &mut Rack<'_, K>,

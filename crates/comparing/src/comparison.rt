@@ -1,5 +1,6 @@
 // What comparing two scores answers.
 use normal::placed::PlacedNumbers;
+use std::fmt;
 
 // One meaning; both lengths, which differ; or the least placed primitive whose counts differ, with both counts.
 #[derive(Clone, Copy)]
@@ -14,4 +15,22 @@ pub enum Comparison {
         first: u32,
         second: u32,
     },
+}
+
+impl fmt::Display for Comparison {
+    fn fmt<W: fmt::Write>(&self, f: &mut fmt::Formatter<W>) -> fmt::Result {
+        match *self {
+            Comparison::Same => f.write_str("same"),
+            Comparison::Lengths { first, second } => write!(f, "lengths {first} {second}"),
+            Comparison::Differs {
+                placed,
+                first,
+                second,
+            } => write!(
+                f,
+                "place {} {} {first} {second}",
+                placed.onset, placed.numbers
+            ),
+        }
+    }
 }

@@ -4,36 +4,31 @@
 mod case;
 
 use crate::case::{Case, parse};
+use algebra::limits::MOST_NODES;
 use algebra::node::Node;
 use kinds::clip::Clip;
 use kinds::kind::Kind;
 use kinds::note::Note;
+use ledger::play::load;
 use rack::rack::Rack;
-use reading::states::FreshReading;
+use refusals::brief::Brief;
 use refusals::refusal::Refusal;
+use std::alloc::{AllocError, Global};
 use std::fs;
 
-// The nodes of one place.
-const SEGMENT: usize = 1023;
-
 // Loads a text at the one place of a fresh rack, and tells of it.
-fn load<K: Kind>(nodes: &mut [Node<K>], text: &[u8]) -> Result<(u32, u32, u32), Refusal> {
+fn told<K: Kind>(nodes: &mut [Node<K>], text: &[u8]) -> Result<(u32, u32, u32), Refusal> {
     let mut rack = Rack::new(nodes);
-    let headed = FreshReading::new(text).read_head()?;
-    rack.load(0, headed)?;
+    load(&mut rack, 0, text)?;
     rack.tell(0)
 }
 
-fn answer<K: Kind + Clone>(rt: &HostRuntime, text: &[u8]) -> anyhow::Result<String> {
-    let mut nodes: Vec<Node<K>> = vec![in rt.alloc(); Node::Rest(0); SEGMENT]?;
-    match load(&mut nodes, text) {
-        Ok((length, nodes, prims)) => Ok(format!(in rt.alloc(); "ok {length} {nodes} {prims}")?),
-        Err(why) => Ok(format!(in rt.alloc();
-            "refused {} {} {}",
-            why.number(),
-            why.part(),
-            why.detail()
-        )?),
+// What a text gives on a rack of a kind, in words.
+fn answer<K: Kind>(alloc: Global, text: &[u8]) -> Result<String, AllocError> {
+    let mut nodes: Vec<Node<K>> = vec![in alloc; Node::default(); MOST_NODES]?;
+    match told(&mut nodes, text) {
+        Ok((length, nodes, prims)) => format!(in alloc; "ok {length} {nodes} {prims}"),
+        Err(refusal) => format!(in alloc; "{}", Brief(refusal)),
     }
 }
 
@@ -44,9 +39,9 @@ fn holds(rt: &HostRuntime, case: Case<'_>) -> anyhow::Result<bool> {
         text.truncate(keep);
     }
     let given = if case.kind == "clip" {
-        answer::<Clip>(rt, &text)?
+        answer::<Clip>(rt.alloc(), &text)?
     } else {
-        answer::<Note>(rt, &text)?
+        answer::<Note>(rt.alloc(), &text)?
     };
     let right = given.as_str() == case.answer;
     if !right {

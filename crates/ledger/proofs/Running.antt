@@ -1,6 +1,6 @@
 -- Any calls, in any order.
 use Rattle.std.proofs.Common.{◌≡◌, ℕ, zero, suc, ◌+◌, ◌-◌, ◌<◌, ◌≤◌, min, Bool, true, false, List, [], ◌∷◌, ◌++◌, length, get_or, take, drop, set, replicate, None, Ok, Err, Option, Result, sym, refl, ap, ◌∙◌, subst, arith}
-use Rattle.std.proofs.lemmas.List.{take_more, length-take-le, drop-drop, drop-set-lt}
+use Rattle.std.proofs.lemmas.List.{take_more, length-replicate, length-take-le, drop-drop, drop-set-lt}
 use Rattle.refusals.specs.declared.refusal.Refusal.{Refusal}
 use Rattle.algebra.specs.Kind.{KindModel, KindLaws}
 use Rattle.algebra.specs.Score.{Score}
@@ -10,9 +10,9 @@ use Rattle.rack.specs.Shelves.{Shelf}
 use Rattle.rack.specs.Calls.{load_answer}
 use Rattle.ledger.specs.declared.call.Call.{Call}
 use Rattle.ledger.specs.declared.call.Call.TheVariants as call
-use Rattle.ledger.specs.declared.call.Answer.{Answer}
-use Rattle.ledger.specs.Ledgers.{Ledger, blank, Accepted, refused, Entered, Kept}
-use Rattle.ledger.specs.Runs.{RendererAt, renderer_at, State, done_of, Did, Ran}
+use Rattle.ledger.specs.Answers.{Answer, refused, done_of}
+use Rattle.ledger.specs.Ledgers.{Ledger, blank, Accepted, Entered, Kept}
+use Rattle.ledger.specs.Runs.{RendererAt, renderer_at, State, Did, Ran}
 use Rattle.ledger.specs.Stands.{Stands}
 use Rattle.ledger.proofs.Standing.{agrees_by, step}
 
@@ -104,10 +104,6 @@ module _ (K : KindModel) {P : Type 0} (R : RendererAt P) where
       subst (λ n. Ran K R s (take (i + 1) calls) (set answers n a) u) long (subst (λ cs. Ran K R s cs (set answers (length (take i calls)) a) u) more (ran_more (take i calls) c answers a s t u (omega arith) r e))
 
 module _ (K : KindModel) where
-  same_length : {X Y : Type 0} (n : ℕ) (x : X) (y : Y) → length (replicate n x) ≡ length (replicate n y)
-  same_length zero x y = refl
-  same_length (suc n) x y = ap suc (same_length n x y)
-
   each_empty : {X : Type 0} (n p : ℕ) → get_or (replicate {A = Option X} n None) p None ≡ None
   each_empty zero p = refl
   each_empty (suc n) zero = refl
@@ -115,4 +111,4 @@ module _ (K : KindModel) where
 
   -- a fresh rack and a blank ledger
   pub start : (n : ℕ) → Stands K (replicate n None) (blank n)
-  start n = record { as_many = same_length n None None; each = λ p. agrees_by K None _ None _ (each_empty n p) (each_empty n p) tt }
+  start n = record { as_many = length-replicate n None ∙ sym (length-replicate n None); each = λ p. agrees_by K None _ None _ (each_empty n p) (each_empty n p) tt }

@@ -23,9 +23,9 @@ use Rattle.nodes.specs.declared.join.Join.{Join}
 use Rattle.nodes.specs.declared.join.Join.TheVariants as join
 use Rattle.ledger.specs.declared.call.Call.{Call}
 use Rattle.ledger.specs.declared.call.Call.TheVariants as call
-use Rattle.ledger.specs.declared.call.Answer.{Answer}
-use Rattle.ledger.specs.Ledgers.{Page, Ledger, page, load_page, rest_page, sequence_page, parallel_page, reverse_page, take_page, drop_page, normal_page, rescored, from_one, from_two, Accepted, refused, Entered}
-use Rattle.ledger.specs.Runs.{RendererAt, State, done_of, Gave, shelved, Puts, Did}
+use Rattle.ledger.specs.Answers.{Answer, refused, done_of}
+use Rattle.ledger.specs.Ledgers.{Page, Ledger, page, load_page, rest_page, sequence_page, parallel_page, reverse_page, take_page, drop_page, normal_page, rescored, from_one, from_two, Accepted, Entered}
+use Rattle.ledger.specs.Runs.{RendererAt, State, Gave, shelved, Puts, Did}
 use Rattle.ledger.specs.Stands.{Holds, Agrees, Stands}
 use Rattle.ledger.proofs.Passing.{all_split, all_parts, unless_true, known_below, holding_some, within_short, within_limits}
 use Rattle.ledger.proofs.Pages.{load_holds, rest_holds, sequence_holds, parallel_holds, normal_holds, rewrite_agrees, reverse_holds, take_holds, drop_holds}

@@ -11,7 +11,7 @@ use Rattle.drawing.specs.Drawn.{drawn, drawn_score}
 use Rattle.rack.specs.Shelves.{Shelf, score_held}
 use Rattle.rack.specs.Comparing.{compare_answer, normal_bytes_at}
 use Rattle.ledger.specs.declared.call.Call.{Call}
-use Rattle.ledger.specs.declared.call.Answer.{Answer}
+use Rattle.ledger.specs.Answers.{Answer}
 use Rattle.ledger.specs.Ledgers.{Page, Ledger, blank, page, Kept}
 use Rattle.ledger.specs.Stands.{Stands}
 

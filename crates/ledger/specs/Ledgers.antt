@@ -8,8 +8,7 @@ use Rattle.grammar.specs.Loads.{Loads}
 use Rattle.building.specs.Steps.{step_named, stepped}
 use Rattle.ledger.specs.declared.call.Call.{Call}
 use Rattle.ledger.specs.declared.call.Call.TheVariants as call
-use Rattle.ledger.specs.declared.call.Answer.{Answer}
-use Rattle.ledger.specs.declared.call.Answer.TheVariants.{Done, Told, Compared, Wrote, Refused}
+use Rattle.ledger.specs.Answers.{Answer, refused}
 
 -- A page that is not blank: a score, and beside it a length and a bag of placed primitives, in any order.
 pub record Page : Type 0 where
@@ -86,14 +85,6 @@ Accepted K (call.Compare x y) l m = m ≡ l
 Accepted K (call.Write place) l m = m ≡ l
 Accepted K (call.WriteNormal place model) l m = m ≡ l
 Accepted K (call.Draw place) l m = m ≡ l
-
--- Whether a call was refused, which is all that the ledger is told of its answer.
-abbrev pub refused : Answer → Bool
-refused Done = false
-refused (Told length nodes primitives) = false
-refused (Compared c) = false
-refused (Wrote bytes) = false
-refused (Refused e) = true
 
 -- A refused call alters no page.
 abbrev pub Entered : KindModel → Call → Bool → Ledger → Ledger → Type 0

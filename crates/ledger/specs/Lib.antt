@@ -1,3 +1,4 @@
+pub mod Answers
 pub mod Ledgers
 pub mod Runs
 pub mod Stands

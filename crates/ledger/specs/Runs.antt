@@ -1,5 +1,5 @@
 -- What a list of calls answers, one after the other, and what they leave.
-use Rattle.std.specs.Prelude.{◌≡◌, ℕ, List, [], ◌∷◌, length, Ok, Err, Result}
+use Rattle.std.specs.Prelude.{◌≡◌, ℕ, List, [], ◌∷◌, length, Result}
 use Rattle.refusals.specs.declared.refusal.Refusal.{Refusal}
 use Rattle.algebra.specs.Kind.{KindModel}
 use Rattle.algebra.specs.Score.{Score, Score.rest}
@@ -15,7 +15,6 @@ use Rattle.rack.specs.Shelves.{Shelf, score_held}
 use Rattle.refusals.specs.Checks.{Check}
 use Rattle.rack.specs.Calls.{put, cleared, clear_answer, tell_answer, load_answer, score_read, bytes_at, write_answer}
 use Rattle.rack.specs.Building.{rest_answer, joined_at, join_answer, make_answer}
-use Rattle.comparing.specs.declared.comparison.Comparison.{Comparison}
 use Rattle.rack.specs.Comparing.{compare_answer, normal_bytes_at, write_normal_answer}
 use Rattle.rack.specs.Drawing.{drawn_over}
 use Rattle.building.specs.Rows.{score_in}
@@ -23,8 +22,7 @@ use Rattle.building.specs.Steps.{step_named}
 use Rattle.rack.specs.Steps.{stepped_at, rewrite_answer}
 use Rattle.ledger.specs.declared.call.Call.{Call}
 use Rattle.ledger.specs.declared.call.Call.TheVariants as call
-use Rattle.ledger.specs.declared.call.Answer.{Answer}
-use Rattle.ledger.specs.declared.call.Answer.TheVariants.{Done, Told, Compared, Wrote, Refused}
+use Rattle.ledger.specs.Answers.{Answer, done_of, told_of, compared_of, wrote_of}
 
 -- A renderer at its settings, by the pictures it makes.
 pub record RendererAt (P : Type 0) : Type 0 where
@@ -44,23 +42,6 @@ state_of shelf buffer picture = record { shelf = shelf; buffer = buffer; picture
 -- A renderer at some settings.
 abbrev pub renderer_at : {S P : Type 0} → (S → ℕ → P) → (S → Entry → P → P) → S → RendererAt P
 renderer_at blank entered settings = record { blank = blank settings; entered = entered settings }
-
--- The answers of calls as values.
-abbrev pub done_of : Check → Answer
-done_of (Ok u) = Done
-done_of (Err e) = Refused e
-
-abbrev pub told_of : Result (ℕ × ℕ × ℕ) Refusal → Answer
-told_of (Ok t) = Told t.0 t.1 t.2
-told_of (Err e) = Refused e
-
-abbrev pub compared_of : Result Comparison Refusal → Answer
-compared_of (Ok c) = Compared c
-compared_of (Err e) = Refused e
-
-abbrev pub wrote_of : Result ℕ Refusal → Answer
-wrote_of (Ok n) = Wrote n
-wrote_of (Err e) = Refused e
 
 -- A call gave one answer and left one state.
 pub record Gave {P : Type 0} (answer : Answer) (state : State P) (a : Answer) (s : State P) : Type 0 where

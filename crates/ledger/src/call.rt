@@ -1,6 +1,5 @@
-// Calls on a rack as values, and their answers.
+// Calls on a rack as values, and what they answer.
 use comparing::comparison::Comparison;
-use refusals::refusal::Refusal;
 
 // A call with its arguments. Loading has the text of its file.
 #[derive(Clone, Copy)]
@@ -70,9 +69,9 @@ pub enum Call<'a> {
     },
 }
 
-// What a call answers: nothing more; length, nodes and primitives; what comparing says; a number of bytes; or a refusal.
+// What a call answers that is not refused: nothing more; length, nodes and primitives; what comparing says; or a number of bytes.
 #[derive(Clone, Copy)]
-pub enum Answer {
+pub enum Reply {
     Done,
     Told {
         length: u32,
@@ -81,5 +80,4 @@ pub enum Answer {
     },
     Compared(Comparison),
     Wrote(u32),
-    Refused(Refusal),
 }

@@ -4,109 +4,77 @@ ghost use Rattle.rack.specs.Places.{number};
 ghost use Rattle.rack.specs.Shelves.{shelf};
 ghost use Rattle.rack.specs.Calls.{LoadedAt};
 ghost use Rattle.ledger.specs.Certificates.{Certificate, Continued};
-ghost use Rattle.ledger.specs.Runs.{done_of, told_of, compared_of, wrote_of, state_of, renderer_at, Did, Ran};
+ghost use Rattle.ledger.specs.Runs.{state_of, renderer_at, Did, Ran};
 
-use crate::call::{Answer, Call};
+use crate::call::{Call, Reply};
 use algebra::node::Node;
-use comparing::comparison::Comparison;
 use kinds::kind::Kind;
 use rack::rack::Rack;
 use reading::states::FreshReading;
 use refusals::refusal::Refusal;
 use render::renderer::Renderer;
 
-// The answer of a call that answers nothing more.
-fn done(res: Result<(), Refusal>) -> Answer
-    ensures { result ≡ done_of res }
-{
-    match res {
-        Ok(()) => Answer::Done,
-        Err(refusal) => Answer::Refused(refusal),
-    }
-}
-
-// The answer of telling.
-fn told(res: Result<(u32, u32, u32), Refusal>) -> Answer
-    ensures { result ≡ told_of res }
-{
-    match res {
-        Ok((length, nodes, primitives)) => Answer::Told {
-            length,
-            nodes,
-            primitives,
-        },
-        Err(refusal) => Answer::Refused(refusal),
-    }
-}
-
-// The answer of comparing.
-fn compared(res: Result<Comparison, Refusal>) -> Answer
-    ensures { result ≡ compared_of res }
-{
-    match res {
-        Ok(comparison) => Answer::Compared(comparison),
-        Err(refusal) => Answer::Refused(refusal),
-    }
-}
-
-// The answer of writing.
-fn wrote(res: Result<u32, Refusal>) -> Answer
-    ensures { result ≡ wrote_of res }
-{
-    match res {
-        Ok(bytes) => Answer::Wrote(bytes),
-        Err(refusal) => Answer::Refused(refusal),
-    }
-}
-
 // Reads the head of a text, and loads what follows.
-fn load<'a, K: Kind>(rack: &mut Rack<'_, K>, to: u32, text: &'a [u8]) -> Result<(), Refusal>
+pub fn load<K: Kind>(rack: &mut Rack<'_, K>, to: u32, text: &[u8]) -> Result<(), Refusal>
     ensures { LoadedAt K.Kind.model text.now to (shelf K.Kind.numbers_of rack.old) (shelf K.Kind.numbers_of rack.new) result }
 {
     let headed = FreshReading::new(text).read_head()?;
     rack.load(to, headed)
 }
 
+// The reply of a call that answers nothing more.
+fn done(_nothing: ()) -> Reply
+    ensures { result ≡ Reply.Done }
+{
+    Reply::Done
+}
+
 // Makes one call.
-pub fn make_call<'a, K: Kind, R: Renderer>(
+pub fn make_call<K: Kind, R: Renderer>(
     rack: &mut Rack<'_, K>,
-    call: Call<'a>,
+    call: Call<'_>,
     buffer: &mut [u8],
     renderer: &mut R,
-) -> Answer
+) -> Result<Reply, Refusal>
     ensures did { Did K.Kind.model (renderer_at R.Renderer.blank R.Renderer.entered (R.Renderer.settings_of renderer.old)) (state_of (shelf K.Kind.numbers_of rack.old) buffer.old (R.Renderer.picture_of renderer.old)) call.entry result (state_of (shelf K.Kind.numbers_of rack.new) buffer.new (R.Renderer.picture_of renderer.new)) }
     ensures settings { R.Renderer.settings_of renderer.new ≡ R.Renderer.settings_of renderer.old }
 {
     match call {
-        Call::Load { to, text } => done(load(rack, to, text)),
-        Call::Rest { to, ticks } => done(rack.rest(to, ticks)),
-        Call::JoinSequence { to, first, second } => done(rack.join_sequence(to, first, second)),
-        Call::JoinParallel { to, first, second } => done(rack.join_parallel(to, first, second)),
-        Call::Reverse { to, from } => done(rack.reverse(to, from)),
-        Call::Take { to, from, ticks } => done(rack.take(to, from, ticks)),
-        Call::Drop { to, from, ticks } => done(rack.drop(to, from, ticks)),
-        Call::Normalise { to, from } => done(rack.normalise(to, from)),
+        Call::Load { to, text } => load(rack, to, text).map(done),
+        Call::Rest { to, ticks } => rack.rest(to, ticks).map(done),
+        Call::JoinSequence { to, first, second } => rack.join_sequence(to, first, second).map(done),
+        Call::JoinParallel { to, first, second } => rack.join_parallel(to, first, second).map(done),
+        Call::Reverse { to, from } => rack.reverse(to, from).map(done),
+        Call::Take { to, from, ticks } => rack.take(to, from, ticks).map(done),
+        Call::Drop { to, from, ticks } => rack.drop(to, from, ticks).map(done),
+        Call::Normalise { to, from } => rack.normalise(to, from).map(done),
         Call::Rewrite {
             place,
             node,
             rule,
             way,
             split,
-        } => done(rack.rewrite(place, node, rule, way, split)),
-        Call::Clear { place } => done(rack.clear(place)),
-        Call::Tell { place } => told(rack.tell(place)),
-        Call::Compare { first, second } => compared(rack.compare(first, second)),
-        Call::Write { place } => wrote(rack.write(place, buffer)),
-        Call::WriteNormal { place, model } => wrote(rack.write_normal(place, model, buffer)),
-        Call::Draw { place } => done(rack.draw(place, renderer)),
+        } => rack.rewrite(place, node, rule, way, split).map(done),
+        Call::Clear { place } => rack.clear(place).map(done),
+        Call::Tell { place } => rack.tell(place).map(|(length, nodes, primitives)| Reply::Told {
+            length,
+            nodes,
+            primitives,
+        }),
+        Call::Compare { first, second } => rack.compare(first, second).map(Reply::Compared),
+        Call::Write { place } => rack.write(place, buffer).map(Reply::Wrote),
+        Call::WriteNormal { place, model } => {
+            rack.write_normal(place, model, buffer).map(Reply::Wrote)
+        }
+        Call::Draw { place } => rack.draw(place, renderer).map(done),
     }
 }
 
 // Makes calls one after the other, as many as the row of answers has room for, and writes their answers into it.
-pub fn play_on<'a, K: Kind, R: Renderer>(
+pub fn play_on<K: Kind, R: Renderer>(
     rack: &mut Rack<'_, K>,
-    calls: &[Call<'a>],
-    answers: &mut [Answer],
+    calls: &[Call<'_>],
+    answers: &mut [Result<Reply, Refusal>],
     buffer: &mut [u8],
     renderer: &mut R,
 )
@@ -115,19 +83,17 @@ pub fn play_on<'a, K: Kind, R: Renderer>(
     ensures settings { R.Renderer.settings_of renderer.new ≡ R.Renderer.settings_of renderer.old }
     ensures ledger { Continued K.Kind.model R.Renderer.blank R.Renderer.entered (shelf K.Kind.numbers_of rack.old) calls.now answers.new (shelf K.Kind.numbers_of rack.new) }
 {
-    let count = calls.len().min(answers.len());
-    for i in 0..count {
-        let call = calls[i];
-        let answer = make_call(rack, call, buffer, renderer);
-        answers[i] = answer;
+    // By index: of what is written through a zip of both, nothing is proved.
+    for i in 0..calls.len().min(answers.len()) {
+        answers[i] = make_call(rack, calls[i], buffer, renderer);
     }
 }
 
 // Makes a rack in the nodes that the caller brings, and makes calls on it, one after the other, as many as the row of answers has room for.
-pub fn play<'a, 'b, K: Kind, R: Renderer>(
+pub fn play<'a, K: Kind, R: Renderer>(
     nodes: &'a mut [Node<K>],
-    calls: &[Call<'b>],
-    answers: &mut [Answer],
+    calls: &[Call<'_>],
+    answers: &mut [Result<Reply, Refusal>],
     buffer: &mut [u8],
     renderer: &mut R,
 ) -> Rack<'a, K>

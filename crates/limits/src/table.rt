@@ -1,11 +1,17 @@
 // The cases that were tried, and how many of them gave another answer than the table says.
-use crate::call::{Answer, Call, play};
+use algebra::limits::MOST_NODES;
 use algebra::node::Node;
 use kinds::note::Note;
+use ledger::call::{Call, Reply};
+use ledger::play::make_call;
 use rack::rack::Rack;
+use refusals::brief::Brief;
+use refusals::refusal::Refusal;
+use render::roll::Roll;
+use std::alloc::{AllocError, Global};
 
 // The nodes of a rack of 8 places.
-const NODES: usize = 8184;
+const NODES: usize = 8 * MOST_NODES;
 
 // How many cases were tried, and how many were wrong.
 #[derive(Drop)]
@@ -16,27 +22,37 @@ pub struct Table<'a> {
 }
 
 // An answer in words.
-fn worded(rt: &HostRuntime, answer: Answer) -> anyhow::Result<String> {
+fn worded(alloc: Global, answer: Result<Reply, Refusal>) -> Result<String, AllocError> {
     match answer {
-        Answer::Done => Ok(format!(in rt.alloc(); "ok")?),
-        Answer::Told(length, nodes, primitives) => {
-            Ok(format!(in rt.alloc(); "ok {length} {nodes} {primitives}")?)
-        }
-        Answer::Refused(why) => Ok(format!(in rt.alloc();
-            "refused {} {} {}",
-            why.number(),
-            why.part(),
-            why.detail()
-        )?),
+        Ok(
+            Reply::Told {
+                length,
+                nodes,
+                primitives,
+            },
+        ) => format!(in alloc; "ok {length} {nodes} {primitives}"),
+        Ok(_) => format!(in alloc; "ok"),
+        Err(refusal) => format!(in alloc; "{}", Brief(refusal)),
     }
 }
 
-// What calls on a fresh rack of notes answer, behind others that are to be carried out.
-fn answer(nodes: &mut [Node<Note>], before: &[Call], calls: &[Call]) -> Answer {
-    let mut rack = Rack::new(nodes);
-    if let Answer::Refused(why) = play(&mut rack, before) {
-        return Answer::Refused(why);
+// Makes calls one after the other: the reply of the last, or the first refusal.
+fn play(rack: &mut Rack<'_, Note>, calls: &[Call<'_>]) -> Result<Reply, Refusal> {
+    let mut reply = Reply::Done;
+    for call in calls {
+        reply = make_call(rack, *call, &mut [], &mut Roll::new(&mut []))?;
     }
+    Ok(reply)
+}
+
+// What calls on a fresh rack answer, behind others that are to be carried out.
+fn answer(
+    nodes: &mut [Node<Note>],
+    before: &[Call<'_>],
+    calls: &[Call<'_>],
+) -> Result<Reply, Refusal> {
+    let mut rack = Rack::new(nodes);
+    play(&mut rack, before)?;
     play(&mut rack, calls)
 }
 
@@ -50,12 +66,12 @@ fn say_wrong(rt: &HostRuntime, name: &str, given: &str, right: &str) -> anyhow::
 fn holds(
     rt: &HostRuntime,
     name: &str,
-    before: &[Call],
-    calls: &[Call],
+    before: &[Call<'_>],
+    calls: &[Call<'_>],
     right: &str,
 ) -> anyhow::Result<bool> {
-    let mut nodes: Vec<Node<Note>> = vec![in rt.alloc(); Node::Rest(0); NODES]?;
-    let given = worded(rt, answer(&mut nodes, before, calls))?;
+    let mut nodes: Vec<Node<Note>> = vec![in rt.alloc(); Node::default(); NODES]?;
+    let given = worded(rt.alloc(), answer(&mut nodes, before, calls))?;
     let same = given.as_str() == right;
     if !same {
         say_wrong(rt, name, &given, right)?;
@@ -74,7 +90,7 @@ impl<'a> Table<'a> {
     }
 
     // Tries a case: what the last of some calls answers on a fresh rack, behind others. It is wrong too where it cannot be tried.
-    pub fn case(&mut self, name: &str, before: &[Call], calls: &[Call], right: &str) {
+    pub fn case(&mut self, name: &str, before: &[Call<'_>], calls: &[Call<'_>], right: &str) {
         self.cases = self.cases.saturating_add(1);
         match holds(self.rt, name, before, calls, right) {
             Ok(true) => {}

@@ -3,7 +3,7 @@ ghost use Rattle.std.specs.Prelude.{◌≡◌};
 ghost use Rattle.refusals.specs.Numbers.{number_of, part_of, detail_of};
 
 // A section of a score file: its first line, the lines from the second to `prims=`, and the rest.
-#[derive(Clone, Copy)]
+#[derive(Debug, Clone, Copy, PartialEq, Eq)]
 pub enum Section {
     Signature,
     Head,
@@ -11,7 +11,7 @@ pub enum Section {
 }
 
 // A refusal with its detail.
-#[derive(Clone, Copy)]
+#[derive(Debug, Clone, Copy, PartialEq, Eq)]
 pub enum Refusal {
     // The file has more than 16,384 bytes.
     Oversize,
@@ -48,7 +48,7 @@ pub enum Refusal {
 }
 
 // Who refuses.
-#[derive(Clone, Copy)]
+#[derive(Debug, Clone, Copy, PartialEq, Eq)]
 pub enum Part {
     Reading,
     Kind,
@@ -86,13 +86,23 @@ impl Refusal {
     pub fn part(self) -> Part
         ensures { result ≡ part_of self }
     {
-        match self.number() {
-            7 => Part::Kind,
-            number => if number < 10 {
-                Part::Reading
-            } else {
-                Part::Rack
-            },
+        match self {
+            Refusal::Oversize
+            | Refusal::Misfit(..)
+            | Refusal::OtherKind(_)
+            | Refusal::TooManyInFile(_)
+            | Refusal::TooLongInFile(_)
+            | Refusal::UntrueHead(_) => Part::Reading,
+            Refusal::IllegalNumbers(_) => Part::Kind,
+            Refusal::BadValue(_)
+            | Refusal::NoSuchPlace(_)
+            | Refusal::EmptyPlace(_)
+            | Refusal::FullPlace(_)
+            | Refusal::NoSuchNode(_)
+            | Refusal::NoFit(_)
+            | Refusal::TooMany(_)
+            | Refusal::TooLong(_)
+            | Refusal::ShortBuffer(_) => Part::Rack,
         }
     }
 

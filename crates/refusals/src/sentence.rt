@@ -1,8 +1,13 @@
 // Refusals in words.
+ghost use Rattle.std.specs.Prelude.{Some};
+ghost use Rattle.refusals.specs.Briefs.{part_text};
+
 use crate::refusal::{Part, Refusal, Section};
 use std::fmt;
 
 impl fmt::Display for Part {
+    ghost output = { λ p. Some (part_text p) };
+
     fn fmt<W: fmt::Write>(&self, f: &mut fmt::Formatter<W>) -> fmt::Result {
         match *self {
             Part::Reading => f.write_str("reading"),

@@ -1,70 +1,20 @@
 // Lines of a script as calls.
+use arrayvec::ArrayVec;
+use ledger::call::Call;
 
-// How a script begins: with a rack for some places of notes or of clips.
+// What a line of a script asks for.
 #[derive(Clone, Copy)]
-pub enum Opening {
-    Notes(u32),
-    Clips(u32),
-}
-
-// A call on the rack, with its arguments.
-#[derive(Clone, Copy)]
-pub enum Call<'a> {
+pub enum Line<'a> {
+    // A call that needs neither a buffer nor a renderer.
+    Plain(Call<'static>),
+    // The file that a call writes, in a buffer of so many bytes.
+    Written(Call<'static>, u32),
+    // A file read and loaded.
     Load { to: u32, file: &'a str },
-    Tell { place: u32 },
-    Write { place: u32, room: u32 },
-    WriteNormal { place: u32, model: u32, room: u32 },
-    Compare { first: u32, second: u32 },
+    // A score drawn on a roll over a row for so many entries.
     Roll { place: u32, capacity: u32 },
+    // A score drawn on a grid over a row of so many counts.
     Grid { place: u32, width: u32, cells: u32 },
-    Plain(Plain),
-}
-
-// A call of numbers alone that answers nothing more than that it was carried out.
-#[derive(Clone, Copy)]
-pub enum Plain {
-    Rest {
-        to: u32,
-        ticks: u32,
-    },
-    Sequence {
-        to: u32,
-        first: u32,
-        second: u32,
-    },
-    Parallel {
-        to: u32,
-        first: u32,
-        second: u32,
-    },
-    Reverse {
-        to: u32,
-        from: u32,
-    },
-    Take {
-        to: u32,
-        from: u32,
-        ticks: u32,
-    },
-    Drop {
-        to: u32,
-        from: u32,
-        ticks: u32,
-    },
-    Normalise {
-        to: u32,
-        from: u32,
-    },
-    Rewrite {
-        place: u32,
-        node: u32,
-        rule: u32,
-        way: u32,
-        split: u32,
-    },
-    Clear {
-        place: u32,
-    },
 }
 
 // Whether a line is empty or a comment.
@@ -72,141 +22,74 @@ pub fn skipped(line: &str) -> bool {
     line.is_empty() || line.starts_with('#')
 }
 
-fn number(word: Option<&str>) -> Option<u32> {
-    word?.parse::<u32>().ok()
+fn number(word: &str) -> Option<u32> {
+    word.parse::<u32>().ok()
 }
 
-// The rack that a script's first line asks for.
-pub fn parse_opening(line: &str) -> Option<Opening> {
-    let mut words = line.split(' ');
-    if words.next()? != "rack" {
-        return None;
-    }
-    let kind = words.next()?;
-    let places = number(words.next())?;
-    if words.next().is_some() {
-        return None;
-    }
-    match kind {
-        "note" => Some(Opening::Notes(places)),
-        "clip" => Some(Opening::Clips(places)),
+// The kind and the number of places that a script's first line names, if it asks for a rack.
+pub fn parse_opening<'a>(words: &[&'a str]) -> Option<(&'a str, u32)> {
+    match words {
+        ["rack", kind, places] => Some((*kind, number(*places)?)),
         _ => None,
     }
 }
 
-// The call that a line is, if it is one.
-pub fn parse<'a>(line: &'a str) -> Option<Call<'a>> {
-    let mut words = line.split(' ');
-    let name = words.next()?;
-    if name == "rewrite" {
-        return Some(Call::Plain(parse_rewrite(line)?));
+// The numbers that words are, if they are numbers, and no more than a rewriting has.
+fn parse_numbers(words: &[&str]) -> Option<ArrayVec<u32, 5>> {
+    let mut numbers = ArrayVec::new();
+    for word in words {
+        numbers.try_push(number(*word)?).ok()?;
     }
-    let place = number(words.next())?;
-    let second = words.next();
-    let third = words.next();
-    if words.next().is_some() {
-        return None;
-    }
-    match (name, second, third) {
-        ("load", Some(file), None) => Some(Call::Load { to: place, file }),
-        ("tell", None, None) => Some(Call::Tell { place }),
-        ("clear", None, None) => Some(Call::Plain(Plain::Clear { place })),
-        (_, _, None) => parse_two(name, place, number(second)?),
-        (_, _, Some(_)) => parse_three(name, place, number(second)?, number(third)?),
-    }
+    Some(numbers)
 }
 
-// The call of a name and two numbers.
-fn parse_two<'a>(name: &str, place: u32, second: u32) -> Option<Call<'a>> {
-    match name {
-        "rest" => Some(Call::Plain(Plain::Rest {
-            to: place,
-            ticks: second,
-        })),
-        "reverse" => Some(Call::Plain(Plain::Reverse {
-            to: place,
-            from: second,
-        })),
-        "normalise" => Some(Call::Plain(Plain::Normalise {
-            to: place,
-            from: second,
-        })),
-        "write" => Some(Call::Write {
+// The call of a name and numbers that needs nothing else.
+fn parse_plain(name: &str, numbers: &[u32]) -> Option<Call<'static>> {
+    let call = match (name, numbers) {
+        ("rest", &[to, ticks]) => Call::Rest { to, ticks },
+        ("seq", &[to, first, second]) => Call::JoinSequence { to, first, second },
+        ("par", &[to, first, second]) => Call::JoinParallel { to, first, second },
+        ("reverse", &[to, from]) => Call::Reverse { to, from },
+        ("take", &[to, from, ticks]) => Call::Take { to, from, ticks },
+        ("drop", &[to, from, ticks]) => Call::Drop { to, from, ticks },
+        ("normalise", &[to, from]) => Call::Normalise { to, from },
+        ("rewrite", &[place, node, rule, way, split]) => Call::Rewrite {
             place,
-            room: second,
-        }),
-        "compare" => Some(Call::Compare {
-            first: place,
-            second,
-        }),
-        "roll" => Some(Call::Roll {
-            place,
-            capacity: second,
-        }),
-        _ => None,
-    }
+            node,
+            rule,
+            way,
+            split,
+        },
+        ("clear", &[place]) => Call::Clear { place },
+        ("tell", &[place]) => Call::Tell { place },
+        ("compare", &[first, second]) => Call::Compare { first, second },
+        _ => return None,
+    };
+    Some(call)
 }
 
-// The call of a name and three numbers.
-fn parse_three<'a>(name: &str, place: u32, second: u32, third: u32) -> Option<Call<'a>> {
-    match name {
-        "write_normal" => Some(Call::WriteNormal {
+// What a line's words ask for, if they are a call.
+pub fn parse<'a>(words: &[&'a str]) -> Option<Line<'a>> {
+    if let ["load", to, file] = words {
+        return Some(Line::Load {
+            to: number(*to)?,
+            file: *file,
+        });
+    }
+    let (name, others) = words.split_first()?;
+    let numbers = parse_numbers(others)?;
+    let line = match (*name, numbers.as_slice()) {
+        ("write", &[place, room]) => Line::Written(Call::Write { place }, room),
+        ("write_normal", &[place, model, room]) => {
+            Line::Written(Call::WriteNormal { place, model }, room)
+        }
+        ("roll", &[place, capacity]) => Line::Roll { place, capacity },
+        ("grid", &[place, width, cells]) => Line::Grid {
             place,
-            model: second,
-            room: third,
-        }),
-        "grid" => Some(Call::Grid {
-            place,
-            width: second,
-            cells: third,
-        }),
-        _ => Some(Call::Plain(parse_plain(name, place, second, third)?)),
-    }
-}
-
-// The call of a name and three numbers that answers nothing more.
-fn parse_plain(name: &str, to: u32, second: u32, third: u32) -> Option<Plain> {
-    match name {
-        "seq" => Some(Plain::Sequence {
-            to,
-            first: second,
-            second: third,
-        }),
-        "par" => Some(Plain::Parallel {
-            to,
-            first: second,
-            second: third,
-        }),
-        "take" => Some(Plain::Take {
-            to,
-            from: second,
-            ticks: third,
-        }),
-        "drop" => Some(Plain::Drop {
-            to,
-            from: second,
-            ticks: third,
-        }),
-        _ => None,
-    }
-}
-
-// The rewriting that a line of five numbers behind its name is.
-fn parse_rewrite(line: &str) -> Option<Plain> {
-    let mut words = line.split(' ').skip(1);
-    let place = number(words.next())?;
-    let node = number(words.next())?;
-    let rule = number(words.next())?;
-    let way = number(words.next())?;
-    let split = number(words.next())?;
-    if words.next().is_some() {
-        return None;
-    }
-    Some(Plain::Rewrite {
-        place,
-        node,
-        rule,
-        way,
-        split,
-    })
+            width,
+            cells,
+        },
+        (name, numbers) => Line::Plain(parse_plain(name, numbers)?),
+    };
+    Some(line)
 }

@@ -1,22 +1,23 @@
 // The calls of a script on a rack, and what they answer.
-use crate::call::{Call, Plain, parse, skipped};
+use crate::call::{Line, parse, skipped};
 use crate::draw::{grid, roll};
 use crate::say::say;
 use algebra::node::Node;
-use comparing::comparison::Comparison;
+use grammar::lines::MOST_BYTES;
 use kinds::kind::Kind;
+use ledger::call::{Call, Reply};
+use ledger::play::make_call;
 use rack::rack::Rack;
-use reading::states::FreshReading;
-use refusals::refusal::Refusal;
+use render::roll::Roll;
 use std::fs;
 
-// No file that a rack writes has more bytes, so a larger buffer changes no answer.
-const MOST_BYTES: u32 = 16_384;
-
-// Reads a text's head, and loads it.
-fn load<K: Kind>(rack: &mut Rack<'_, K>, to: u32, text: &[u8]) -> Result<(), Refusal> {
-    let headed = FreshReading::new(text).read_head()?;
-    rack.load(to, headed)
+// Makes a call that needs neither a buffer nor a renderer, and says what it answers.
+fn make_plain<K: Kind>(
+    rt: &HostRuntime,
+    rack: &mut Rack<'_, K>,
+    call: Call<'_>,
+) -> anyhow::Result<()> {
+    say(rt, make_call(rack, call, &mut [], &mut Roll::new(&mut [])))
 }
 
 fn load_file<K: Kind>(
@@ -27,7 +28,7 @@ fn load_file<K: Kind>(
     file: &str,
 ) -> anyhow::Result<()> {
     match fs::read(rt, file) {
-        Ok(text) => say(rt, load(rack, to, &text)),
+        Ok(text) => make_plain(rt, rack, Call::Load { to, text: &text }),
         Err(_) => {
             println!(rt; "line {line}: no file {file}")?;
             Ok(())
@@ -35,136 +36,47 @@ fn load_file<K: Kind>(
     }
 }
 
-fn tell<K: Kind>(rt: &HostRuntime, rack: &Rack<'_, K>, place: u32) -> anyhow::Result<()> {
-    match rack.tell(place) {
-        Ok((length, nodes, prims)) => {
-            println!(rt; "length={length} nodes={nodes} prims={prims}")?;
-            Ok(())
-        }
-        Err(why) => say(rt, Err(why)),
-    }
-}
-
-// A buffer of so many bytes.
-fn buffer_of(rt: &HostRuntime, room: u32) -> anyhow::Result<Vec<u8>> {
-    let buffer = vec![in rt.alloc(); 0u8; room.min(MOST_BYTES) as usize]?;
-    Ok(buffer)
-}
-
-// Shows the file that was written at the start of a buffer.
-fn show(
-    rt: &HostRuntime,
-    written: Result<u32, Refusal>,
-    mut buffer: Vec<u8>,
-) -> anyhow::Result<()> {
-    match written {
-        Ok(count) => {
-            println!(rt; "bytes={count}")?;
-            buffer.truncate(count as usize);
-            let text = String::from_utf8_lossy(rt.alloc(), &buffer)?;
-            for line in text.lines() {
-                println!(rt; "  {line}")?;
-            }
-            Ok(())
-        }
-        Err(why) => say(rt, Err(why)),
-    }
-}
-
+// Makes a call that writes a file, and shows the file. No file has more bytes than the longest buffer, so one with more room
+// would change no answer.
 fn write<K: Kind>(
     rt: &HostRuntime,
-    rack: &Rack<'_, K>,
-    place: u32,
+    rack: &mut Rack<'_, K>,
+    call: Call<'_>,
     room: u32,
 ) -> anyhow::Result<()> {
-    let mut buffer = buffer_of(rt, room)?;
-    let written = rack.write(place, &mut buffer);
-    show(rt, written, buffer)
-}
-
-fn write_normal<K: Kind>(
-    rt: &HostRuntime,
-    rack: &Rack<'_, K>,
-    place: u32,
-    model: u32,
-    room: u32,
-) -> anyhow::Result<()> {
-    let mut buffer = buffer_of(rt, room)?;
-    let written = rack.write_normal(place, model, &mut buffer);
-    show(rt, written, buffer)
-}
-
-fn compare<K: Kind>(
-    rt: &HostRuntime,
-    rack: &Rack<'_, K>,
-    one: u32,
-    other: u32,
-) -> anyhow::Result<()> {
-    match rack.compare(one, other) {
-        Ok(Comparison::Same) => println!(rt; "same")?,
-        Ok(Comparison::Lengths { first, second }) => println!(rt; "lengths {first} {second}")?,
-        Ok(
-            Comparison::Differs {
-                placed,
-                first,
-                second,
-            },
-        ) => {
-            let numbers = placed.numbers;
-            println!(rt;
-                "place {} {},{},{},{} {first} {second}",
-                placed.onset, numbers.first, numbers.second, numbers.third, numbers.fourth
-            )?
+    let mut buffer = vec![in rt.alloc(); 0u8; (room as usize).min(MOST_BYTES)]?;
+    let answer = make_call(rack, call, &mut buffer, &mut Roll::new(&mut []));
+    say(rt, answer)?;
+    if let Ok(Reply::Wrote(bytes)) = answer {
+        buffer.truncate(bytes as usize);
+        let text = String::from_utf8_lossy(rt.alloc(), &buffer)?;
+        for line in text.lines() {
+            println!(rt; "  {line}")?;
         }
-        Err(why) => say(rt, Err(why))?,
     }
     Ok(())
 }
 
-// What a call of numbers alone answers.
-fn answer<K: Kind>(rack: &mut Rack<'_, K>, call: Plain) -> Result<(), Refusal> {
-    match call {
-        Plain::Rest { to, ticks } => rack.rest(to, ticks),
-        Plain::Sequence { to, first, second } => rack.join_sequence(to, first, second),
-        Plain::Parallel { to, first, second } => rack.join_parallel(to, first, second),
-        Plain::Reverse { to, from } => rack.reverse(to, from),
-        Plain::Take { to, from, ticks } => rack.take(to, from, ticks),
-        Plain::Drop { to, from, ticks } => rack.drop(to, from, ticks),
-        Plain::Normalise { to, from } => rack.normalise(to, from),
-        Plain::Rewrite {
-            place,
-            node,
-            rule,
-            way,
-            split,
-        } => rack.rewrite(place, node, rule, way, split),
-        Plain::Clear { place } => rack.clear(place),
-    }
-}
-
+// Does what a line asks for.
 fn carry_out<K: Kind>(
     rt: &HostRuntime,
     rack: &mut Rack<'_, K>,
     line: usize,
     text: &str,
 ) -> anyhow::Result<()> {
-    match parse(text) {
-        Some(Call::Load { to, file }) => load_file(rt, rack, line, to, file),
-        Some(Call::Tell { place }) => tell(rt, rack, place),
-        Some(Call::Write { place, room }) => write(rt, rack, place, room),
-        Some(Call::WriteNormal { place, model, room }) => {
-            write_normal(rt, rack, place, model, room)
-        }
-        Some(Call::Compare { first, second }) => compare(rt, rack, first, second),
-        Some(Call::Roll { place, capacity }) => roll(rt, rack, place, capacity),
+    let words: Vec<&str> = text.split(' ').collect(rt.alloc())?;
+    match parse(&words) {
+        Some(Line::Plain(call)) => make_plain(rt, rack, call),
+        Some(Line::Written(call, room)) => write(rt, rack, call, room),
+        Some(Line::Load { to, file }) => load_file(rt, rack, line, to, file),
+        Some(Line::Roll { place, capacity }) => roll(rt, rack, place, capacity),
         Some(
-            Call::Grid {
+            Line::Grid {
                 place,
                 width,
                 cells,
             },
         ) => grid(rt, rack, place, width, cells),
-        Some(Call::Plain(call)) => say(rt, answer(rack, call)),
         None => {
             println!(rt; "line {line}: no such call")?;
             Ok(())

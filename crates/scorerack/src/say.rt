@@ -1,11 +1,22 @@
-// What every answer of a call can be: that it was carried out, or why it was refused.
+// What a call answers, in words.
+use ledger::call::Reply;
+use refusals::brief::Brief;
 use refusals::refusal::Refusal;
 
-// Says that a call was carried out, or why not.
-pub fn say(rt: &HostRuntime, answer: Result<(), Refusal>) -> anyhow::Result<()> {
+// Says what a call answered, or why it was refused.
+pub fn say(rt: &HostRuntime, answer: Result<Reply, Refusal>) -> anyhow::Result<()> {
     match answer {
-        Ok(()) => println!(rt; "ok")?,
-        Err(why) => println!(rt; "refused {} {} {}", why.number(), why.part(), why.detail())?,
+        Ok(Reply::Done) => println!(rt; "ok")?,
+        Ok(
+            Reply::Told {
+                length,
+                nodes,
+                primitives,
+            },
+        ) => println!(rt; "length={length} nodes={nodes} prims={primitives}")?,
+        Ok(Reply::Compared(comparison)) => println!(rt; "{comparison}")?,
+        Ok(Reply::Wrote(bytes)) => println!(rt; "bytes={bytes}")?,
+        Err(refusal) => println!(rt; "{}", Brief(refusal))?,
     }
     Ok(())
 }

@@ -1,5 +1,7 @@
 // What tidying does with a text.
+use algebra::limits::MOST_NODES;
 use algebra::node::Node;
+use grammar::lines::MOST_BYTES;
 use kinds::clip::Clip;
 use kinds::kind::Kind;
 use kinds::note::Note;
@@ -8,61 +10,59 @@ use reading::states::{FreshReading, HeadedReading};
 use refusals::refusal::Refusal;
 use std::fs;
 
-// The nodes of one place, and the bytes of the longest file.
-const SEGMENT: usize = 1023;
-
-const MOST_BYTES: usize = 16_384;
-
-fn say_refused(rt: &HostRuntime, why: Refusal) -> anyhow::Result<()> {
+fn say_refused(rt: &HostRuntime, refusal: Refusal) -> anyhow::Result<()> {
     println!(rt;
-        "refused: number {}, part {}, detail {}: {why}",
-        why.number(),
-        why.part(),
-        why.detail()
+        "refused: number {}, part {}, detail {}: {refusal}",
+        refusal.number(),
+        refusal.part(),
+        refusal.detail()
     )?;
     Ok(())
 }
 
-// Says what the rack tells of its first place, and writes it to the file named, or shows it.
-fn hand_on<K: Kind>(
-    rt: &HostRuntime,
-    rack: &Rack<'_, K>,
-    to: Option<String>,
-) -> anyhow::Result<()> {
-    let (length, nodes, primitives) = match rack.tell(0) {
-        Ok(told) => told,
-        Err(why) => return say_refused(rt, why),
-    };
-    println!(rt; "score: length {length}, {nodes} nodes, {primitives} primitives")?;
-    let mut buffer = vec![in rt.alloc(); 0u8; MOST_BYTES]?;
-    let count = match rack.write(0, &mut buffer) {
-        Ok(count) => count,
-        Err(why) => return say_refused(rt, why),
-    };
-    buffer.truncate(count as usize);
+// Writes a file under a name, or shows it.
+fn hand_on(rt: &HostRuntime, file: &[u8], to: Option<String>) -> anyhow::Result<()> {
+    let count = file.len();
     match to {
         Some(name) => {
-            fs::write(rt, name.as_str(), buffer.as_slice())?;
+            fs::write(rt, name.as_str(), file)?;
             println!(rt; "wrote {name}: {count} bytes")?;
         }
         None => {
             println!(rt; "wrote {count} bytes:")?;
-            print!(rt; "{}", String::from_utf8_lossy(rt.alloc(), &buffer)?)?;
+            print!(rt; "{}", String::from_utf8_lossy(rt.alloc(), file)?)?;
         }
     }
     Ok(())
 }
 
-fn tidy_kind<K: Kind + Clone>(
+// Loads what follows a head on a rack of one place, tells of it, and writes its file into a buffer.
+fn rewritten<K: Kind>(
+    nodes: &mut [Node<K>],
+    headed: HeadedReading<'_>,
+    buffer: &mut [u8],
+) -> Result<((u32, u32, u32), u32), Refusal> {
+    let mut rack = Rack::new(nodes);
+    rack.load(0, headed)?;
+    let told = rack.tell(0)?;
+    let count = rack.write(0, buffer)?;
+    Ok((told, count))
+}
+
+fn tidy_kind<K: Kind>(
     rt: &HostRuntime,
     headed: HeadedReading<'_>,
     to: Option<String>,
 ) -> anyhow::Result<()> {
-    let mut nodes: Vec<Node<K>> = vec![in rt.alloc(); Node::Rest(0); SEGMENT]?;
-    let mut rack = Rack::new(&mut nodes);
-    match rack.load(0, headed) {
-        Ok(()) => hand_on(rt, &rack, to),
-        Err(why) => say_refused(rt, why),
+    let mut nodes: Vec<Node<K>> = vec![in rt.alloc(); Node::default(); MOST_NODES]?;
+    let mut buffer = vec![in rt.alloc(); 0u8; MOST_BYTES]?;
+    match rewritten(&mut nodes, headed, &mut buffer) {
+        Ok(((length, nodes, primitives), count)) => {
+            println!(rt; "score: length {length}, {nodes} nodes, {primitives} primitives")?;
+            buffer.truncate(count as usize);
+            hand_on(rt, &buffer, to)
+        }
+        Err(refusal) => say_refused(rt, refusal),
     }
 }
 
@@ -70,7 +70,7 @@ fn tidy_kind<K: Kind + Clone>(
 pub fn tidy(rt: &HostRuntime, text: &[u8], to: Option<String>) -> anyhow::Result<()> {
     let headed = match FreshReading::new(text).read_head() {
         Ok(headed) => headed,
-        Err(why) => return say_refused(rt, why),
+        Err(refusal) => return say_refused(rt, refusal),
     };
     let (kind, length, primitives) = headed.tell();
     let name = String::from_utf8_lossy(rt.alloc(), kind)?;

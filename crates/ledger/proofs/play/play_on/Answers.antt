@@ -10,34 +10,34 @@ loop-i-preserved g c =
     let K = g.K.Kind.model in
     let f = g.K.Kind.numbers_of in
     let R = g.R.Renderer in
-    let now = c.make_call-answer.ensures in
-    let inv = c.loop-i.invariant in
-    let answer = c.make_call-answer.result in
+    let now = c.make_call in
+    let so_far = c.loop-i.invariant in
+    let first = state_of (shelf f c.args.rack.now) c.args.buffer.now (R.picture_of c.args.renderer.now) in
     let before = state_of (shelf f c.loop-i.rack) c.loop-i.buffer (R.picture_of c.loop-i.renderer) in
-    let after = state_of (shelf f c.make_call-answer.new.rack) c.make_call-answer.new.buffer (R.picture_of c.make_call-answer.new.renderer) in
-    let did = did_at K R.blank R.entered _ _ inv.2 before after _ answer now.did in (
-      turn K (renderer_at R.blank R.entered (R.settings_of c.args.renderer.now)) c.args.calls.now c.loop-i.i _ _ c.loop-i.answers answer
-          (state_of (shelf f c.args.rack.now) c.args.buffer.now (R.picture_of c.args.renderer.now)) before after
-          (omega (arith, c.min-count.ensures)) (omega (arith, c.min-count.ensures)) refl inv.0 did,
-      set_behind c.loop-i.answers c.args.answers.now c.loop-i.i answer inv.1,
-      now.settings ∙ inv.2,
-    )
+    let after = state_of (shelf f now.new.rack) now.new.buffer (R.picture_of now.new.renderer) in
+    let did = did_at K R.blank R.entered _ _ so_far.settings before after _ now.result now.ensures.did in
+    record {
+      run = turn K (renderer_at R.blank R.entered (R.settings_of c.args.renderer.now)) c.args.calls.now c.loop-i.i _ _ c.loop-i.answers now.result first before after
+          (omega (arith, c.min-i-end.ensures)) (omega (arith, c.min-i-end.ensures)) refl so_far.run did;
+      others = set_behind c.loop-i.answers c.args.answers.now c.loop-i.i now.result so_far.others;
+      settings = now.ensures.settings ∙ so_far.settings;
+    }
 
 pub returns : goal.returns
 returns g c =
     let K = g.K.Kind.model in
     let f = g.K.Kind.numbers_of in
     let R = g.R.Renderer in
-    let inv = c.loop-i.invariant in
+    let so_far = c.loop-i.invariant in
     let calls = c.args.calls.now in
     let answers = c.loop-i.answers in
     let at = renderer_at R.blank R.entered (R.settings_of c.args.renderer.now) in
     let first = state_of (shelf f c.args.rack.now) c.args.buffer.now (R.picture_of c.args.renderer.now) in
     let last = state_of (shelf f c.loop-i.rack) c.loop-i.buffer (R.picture_of c.loop-i.renderer) in
-    let ran = ran_enough K at c.loop-i.i calls answers first last (omega (arith, c.min-count.ensures, c.loop-i-test.false)) inv.0 in
+    let ran = ran_enough K at c.loop-i.i calls answers first last (omega (arith, c.min-i-end.ensures, c.loop-i-test.false)) so_far.run in
     record {
       run = ran;
-      others = drop_behind answers c.args.answers.now c.loop-i.i (length calls) (omega (arith, c.min-count.ensures)) inv.1;
-      settings = inv.2;
+      others = drop_behind answers c.args.answers.now c.loop-i.i (length calls) (omega (arith, c.min-i-end.ensures)) so_far.others;
+      settings = so_far.settings;
       ledger = λ l m st k. certified K g.met.K.Kind.lawful R.blank R.entered R.either_order last.shelf m (run K at g.met.K.Kind.lawful calls answers first last l m st ran k);
     }

@@ -8,7 +8,9 @@ abbrev pub invariant-loop-i : goal.invariant-loop-i
 invariant-loop-i g l =
     let R = g.R.Renderer in
     let f = g.K.Kind.numbers_of in
-    Ran g.K.Kind.model (renderer_at R.blank R.entered (R.settings_of l.initial.renderer)) (state_of (shelf f l.initial.rack) l.initial.buffer (R.picture_of l.initial.renderer))
-    (take l.i l.calls) l.answers (state_of (shelf f l.rack) l.buffer (R.picture_of l.renderer))
-    × (drop l.i l.answers ≡ drop l.i l.initial.answers)
-    × (R.settings_of l.renderer ≡ R.settings_of l.initial.renderer)
+    record {
+      run : Ran g.K.Kind.model (renderer_at R.blank R.entered (R.settings_of l.initial.renderer)) (state_of (shelf f l.initial.rack) l.initial.buffer (R.picture_of l.initial.renderer))
+          (take l.i l.calls) l.answers (state_of (shelf f l.rack) l.buffer (R.picture_of l.renderer));
+      others : drop l.i l.answers ≡ drop l.i l.initial.answers;
+      settings : R.settings_of l.renderer ≡ R.settings_of l.initial.renderer;
+    }

@@ -20,6 +20,3 @@ pub const NEWLINE: &[u8] = b"\n";
 
 // What follows the term: the end of its line, and the last line.
 pub const ENDING: &[u8] = b"\nend=score\n";
-
-// The most bytes that a file may have.
-pub const MOST_BYTES: usize = 16_384;

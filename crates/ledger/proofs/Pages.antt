@@ -11,7 +11,7 @@ use Rattle.algebra.proofs.Legal.{chain_legal}
 use Rattle.algebra.proofs.Meanings.{join_means, chain_means, take_means, drop_means, reverse_means}
 use Rattle.algebra.proofs.OtherSides.{none_some}
 use Rattle.algebra.proofs.Rewrite.{rewrites_step}
-use Rattle.building.specs.declared.step.Step.{Step}
+use Rattle.rewriting.specs.declared.step.Step.{Step}
 use Rattle.building.specs.Steps.{stepped}
 use Rattle.ledger.specs.Ledgers.{Page, load_page, rest_page, sequence_page, parallel_page, reverse_page, take_page, drop_page, normal_page, rescored}
 use Rattle.ledger.specs.Stands.{Holds, Agrees}

@@ -1,7 +1,6 @@
 // Calls made one after the other, and the ledger that is kept of them.
 ghost use Rattle.std.specs.Prelude.{◌≡◌, length, drop, replicate, None};
 ghost use Rattle.rack.specs.Places.{number};
-ghost use Rattle.rack.specs.Shelves.{shelf};
 ghost use Rattle.rack.specs.Calls.{LoadedAt};
 ghost use Rattle.ledger.specs.Certificates.{Certificate, Continued};
 ghost use Rattle.ledger.specs.Runs.{state_of, renderer_at, Did, Ran};
@@ -16,7 +15,7 @@ use render::renderer::Renderer;
 
 // Reads the head of a text, and loads what follows.
 pub fn load<K: Kind>(rack: &mut Rack<'_, K>, to: u32, text: &[u8]) -> Result<(), Refusal>
-    ensures { LoadedAt K.Kind.model text.now to (shelf K.Kind.numbers_of rack.old) (shelf K.Kind.numbers_of rack.new) result }
+    ensures { LoadedAt K.Kind.model text.now to rack.old rack.new result }
 {
     let headed = FreshReading::new(text).read_head()?;
     rack.load(to, headed)
@@ -36,7 +35,7 @@ pub fn make_call<K: Kind, R: Renderer>(
     buffer: &mut [u8],
     renderer: &mut R,
 ) -> Result<Reply, Refusal>
-    ensures did { Did K.Kind.model (renderer_at R.Renderer.blank R.Renderer.entered (R.Renderer.settings_of renderer.old)) (state_of (shelf K.Kind.numbers_of rack.old) buffer.old (R.Renderer.picture_of renderer.old)) call.entry result (state_of (shelf K.Kind.numbers_of rack.new) buffer.new (R.Renderer.picture_of renderer.new)) }
+    ensures did { Did K.Kind.model (renderer_at R.Renderer.blank R.Renderer.entered (R.Renderer.settings_of renderer.old)) (state_of rack.old buffer.old (R.Renderer.picture_of renderer.old)) call.entry result (state_of rack.new buffer.new (R.Renderer.picture_of renderer.new)) }
     ensures settings { R.Renderer.settings_of renderer.new ≡ R.Renderer.settings_of renderer.old }
 {
     match call {
@@ -78,10 +77,10 @@ pub fn play_on<K: Kind, R: Renderer>(
     buffer: &mut [u8],
     renderer: &mut R,
 )
-    ensures run { Ran K.Kind.model (renderer_at R.Renderer.blank R.Renderer.entered (R.Renderer.settings_of renderer.old)) (state_of (shelf K.Kind.numbers_of rack.old) buffer.old (R.Renderer.picture_of renderer.old)) calls.now answers.new (state_of (shelf K.Kind.numbers_of rack.new) buffer.new (R.Renderer.picture_of renderer.new)) }
+    ensures run { Ran K.Kind.model (renderer_at R.Renderer.blank R.Renderer.entered (R.Renderer.settings_of renderer.old)) (state_of rack.old buffer.old (R.Renderer.picture_of renderer.old)) calls.now answers.new (state_of rack.new buffer.new (R.Renderer.picture_of renderer.new)) }
     ensures others { drop (length calls.now) answers.new ≡ drop (length calls.now) answers.old }
     ensures settings { R.Renderer.settings_of renderer.new ≡ R.Renderer.settings_of renderer.old }
-    ensures ledger { Continued K.Kind.model R.Renderer.blank R.Renderer.entered (shelf K.Kind.numbers_of rack.old) calls.now answers.new (shelf K.Kind.numbers_of rack.new) }
+    ensures ledger { Continued K.Kind.model R.Renderer.blank R.Renderer.entered rack.old calls.now answers.new rack.new }
 {
     // By index: of what is written through a zip of both, nothing is proved.
     for i in 0..calls.len().min(answers.len()) {
@@ -97,10 +96,10 @@ pub fn play<'a, K: Kind, R: Renderer>(
     buffer: &mut [u8],
     renderer: &mut R,
 ) -> Rack<'a, K>
-    ensures run { Ran K.Kind.model (renderer_at R.Renderer.blank R.Renderer.entered (R.Renderer.settings_of renderer.old)) (state_of (replicate (number nodes.old) None) buffer.old (R.Renderer.picture_of renderer.old)) calls.now answers.new (state_of (shelf K.Kind.numbers_of result) buffer.new (R.Renderer.picture_of renderer.new)) }
+    ensures run { Ran K.Kind.model (renderer_at R.Renderer.blank R.Renderer.entered (R.Renderer.settings_of renderer.old)) (state_of (replicate (number nodes.old) None) buffer.old (R.Renderer.picture_of renderer.old)) calls.now answers.new (state_of result buffer.new (R.Renderer.picture_of renderer.new)) }
     ensures others { drop (length calls.now) answers.new ≡ drop (length calls.now) answers.old }
     ensures settings { R.Renderer.settings_of renderer.new ≡ R.Renderer.settings_of renderer.old }
-    ensures ledger { Certificate K.Kind.model R.Renderer.blank R.Renderer.entered (number nodes.old) calls.now answers.new (shelf K.Kind.numbers_of result) }
+    ensures ledger { Certificate K.Kind.model R.Renderer.blank R.Renderer.entered (number nodes.old) calls.now answers.new result }
 {
     let mut rack = Rack::new(nodes);
     play_on(&mut rack, calls, answers, buffer, renderer);

@@ -1,5 +1,5 @@
 -- What a text gives, from how it is read and what its file gives.
-use Rattle.std.proofs.Common.{◌≡◌, ℕ, List, IsErrAnd, Ok, Err, Result, sym, ◌∙◌, subst}
+use Rattle.std.proofs.Common.{◌≡◌, ℕ, List, Ok, Err, Result, ◌∙◌, subst}
 use Rattle.algebra.specs.Kind.{KindModel}
 use Rattle.refusals.specs.declared.refusal.Refusal.{Refusal}
 use Rattle.grammar.specs.declared.head.Head.{Head}
@@ -13,9 +13,8 @@ use Rattle.loading.specs.Gives.{Gives}
 
 module _ (K : KindModel) (text : List ℕ) where
   -- the text is refused as no file of the kind
-  pub gives_refused : (is : List Item) (name : List ℕ) → name ≡ K.name → (r : Result Loaded Refusal) (e : Refusal) → IsErrAnd r (λ y. y ≡ e) → Refused name text e → Gives K text is r
-  gives_refused is name named (Ok l) e h q = absurd h
-  gives_refused is name named (Err y) e h q = refused (subst (λ n. Refused n text y) named (subst (Refused name text) (sym h) q))
+  pub gives_refused : (is : List Item) (name : List ℕ) → name ≡ K.name → (e : Refusal) → Refused name text e → Gives K text is (Err e)
+  gives_refused is name named e q = refused (subst (λ n. Refused n text e) named q)
 
   -- the text is a file of the kind
   pub gives_checked : (name : List ℕ) → name ≡ K.name → (head : Head) (is : List Item) (d : ReadAs name text head is) (r : Result Loaded Refusal) → Checks K d.file is r → Gives K text is r

@@ -13,7 +13,7 @@ use kinds::kind::Kind;
 use refusals::refusal::Refusal;
 
 // How many nodes an accepted score has, and how many primitives.
-#[derive(Clone, Copy)]
+#[derive(Clone, Copy, Default, PartialEq, Eq)]
 pub struct Loaded {
     pub nodes: u32,
     pub primitives: u32,

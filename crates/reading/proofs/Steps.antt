@@ -3,7 +3,7 @@ use Rattle.std.proofs.Common.{◌≡◌, ℕ, zero, suc, ◌+◌, ◌<◌, ◌�
 use Rattle.std.proofs.lemmas.Grind.{common_steps}
 use mathlib.Core.List.{append_cancel_left}
 use Rattle.std.specs.List.{ContainsAt as Has, AllByRecursion, between}
-use Rattle.std.proofs.lemmas.List.{drop_more, drop_all, take_more, nil_from_length, length-append}
+use Rattle.std.proofs.lemmas.List.{get_or-drop, length-drop, drop_more, drop_all, take_more, nil_from_length, length-append}
 use Rattle.std.proofs.lemmas.List.Edits.{get_or-between, length-between, split_between}
 use Rattle.std.proofs.ByRecursion.{All-from_get_or}
 use Rattle.std.proofs.str.Laws.{order}
@@ -103,6 +103,17 @@ module _ {text : List ℕ} (want : List ℕ) (i : ℕ) (lt : i < length want) {f
 module _ (text : List ℕ) where
   pub front_between : (from to : ℕ) → from ≤ to → drop from text ≡ between from to text ++ drop to text
   front_between from to le = append_cancel_left (take from text) _ _ (take-append-drop from text ∙ split_between text from to le)
+
+  -- the bytes that are not read yet
+  module _ (from : ℕ) (rest : List ℕ) (here : rest ≡ drop from text) where
+    pub at_rest : (k : ℕ) → get_or rest k 0 ≡ get_or text (from + k) 0
+    at_rest k = ap (λ l. get_or l k 0) here ∙ get_or-drop from text k 0
+
+    pub within_rest : from ≤ length text → (n : ℕ) → n ≤ length rest → from + n ≤ length text
+    within_rest le n h = omega (arith, ap length here, length-drop from text)
+
+    pub before_end : (n : ℕ) → from + n < length text → n < length rest
+    before_end n h = omega (arith, ap length here, length-drop from text)
 
   -- each of the bytes of a run
   run_all : (P : ℕ → Type 0) (from n : ℕ) → from + n ≤ length text → ((k : ℕ) → k < n → P (get_or text (from + k) 0)) → AllByRecursion P (between from (from + n) text)

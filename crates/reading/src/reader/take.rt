@@ -1,5 +1,5 @@
 // Takes words from a text. No other function looks at the text.
-ghost use Rattle.std.specs.Prelude.{◌≡◌, ℕ, ◌+◌, ◌<◌, ◌≤◌, [], length, true, false, slice_index, MatchResult};
+ghost use Rattle.std.specs.Prelude.{◌≡◌, ℕ, ◌<◌, ◌≤◌, [], length, drop, true, false, slice_index, MatchResult};
 ghost use Rattle.std.specs.Fn.{FnReturnsAt};
 ghost use Rattle.algebra.specs.Kind.{Name};
 ghost use Rattle.reading.specs.Languages.{Just};
@@ -29,6 +29,13 @@ impl<'a> Reader<'a> {
         }
     }
 
+    // The bytes that are not read yet.
+    fn rest(&self) -> &'a [u8]
+        ensures { result.now ≡ drop self.now.at self.now.text.now }
+    {
+        &self.text[self.at..]
+    }
+
     // One byte, which has to be one of `wanted`.
     pub fn mark(&mut self, wanted: &[u8]) -> Result<Word<'a>, Refusal>
         ensures { MatchResult result (λ w. MarkTaken wanted.now self.old self.new w) (λ e. NoMark wanted.now self.old e) }
@@ -54,27 +61,12 @@ impl<'a> Reader<'a> {
         Ok(Word::Key(self.since(start)))
     }
 
-    // How many of the bytes that come next pass a test, up to a number of them.
-    fn run_length<F: Fn(&u8) -> bool>(&self, most: usize, test: F) -> usize
-        requires { F.IsAlwaysCallable test }
-        ensures few { result ≤ most }
-        ensures within { self.now.at + result ≤ length self.now.text.now }
-        ensures passes { (k : ℕ) → k < result → FnReturnsAt F.Fn test (slice_index self.now.text.now (self.now.at + k)) true }
-        ensures ends { result < most → self.now.at + result < length self.now.text.now → FnReturnsAt F.Fn test (slice_index self.now.text.now (self.now.at + result)) false }
-    {
-        self.text[self.at..]
-            .iter()
-            .take(most)
-            .take_while(|b| test(b))
-            .count()
-    }
-
     // The digits that come next, as many as there are.
     pub fn digits(&mut self) -> Word<'a>
         ensures { DigitsTaken self.old self.new result }
     {
         let start = self.at;
-        self.at += self.run_length(usize::MAX, u8::is_ascii_digit);
+        self.at += run_length(self.rest(), usize::MAX, u8::is_ascii_digit);
         Word::Digits(self.since(start))
     }
 
@@ -82,7 +74,7 @@ impl<'a> Reader<'a> {
     pub fn name(&mut self) -> Result<Word<'a>, Refusal>
         ensures { MatchResult result (λ w. NameTaken self.old self.new w) (λ e. Fault Name NoLetter self.old e) }
     {
-        let length = self.run_length(8, u8::is_ascii_lowercase);
+        let length = run_length(self.rest(), 8, u8::is_ascii_lowercase);
         if length == 0 {
             return Err(self.misfit());
         }
@@ -100,4 +92,15 @@ impl<'a> Reader<'a> {
             None => Ok(()),
         }
     }
+}
+
+// How many bytes pass a test from the first on, up to a number of them.
+fn run_length<F: Fn(&u8) -> bool>(bytes: &[u8], most: usize, test: F) -> usize
+    requires { F.IsAlwaysCallable test }
+    ensures few { result ≤ most }
+    ensures within { result ≤ length bytes.now }
+    ensures passes { (k : ℕ) → k < result → FnReturnsAt F.Fn test (slice_index bytes.now k) true }
+    ensures ends { result < most → result < length bytes.now → FnReturnsAt F.Fn test (slice_index bytes.now result) false }
+{
+    bytes.iter().take(most).take_while(|b| test(b)).count()
 }

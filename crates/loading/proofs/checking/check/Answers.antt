@@ -1,17 +1,14 @@
-use Rattle.std.proofs.lemmas.Result.{err_from_is_err_and}
+use Rattle.std.proofs.Common.{rules}
 use Rattle.loading.proofs.Answered.{whole, some_item, too_many, illegal_one, too_long, untrue_ticks, untrue_count, accepted}
 use Rattle.loading.proofs.checking.check.Goals as goal
 
 pub returns-in_err-primitives : goal.returns-in_err-primitives
 returns-in_err-primitives g c f d =
-    let p = err_from_is_err_and c.from_residual.result c.from_residual.ensures.1 in
-    rw (p.1, p.2) (too_many g.K.Kind.model f c.args.head c.args.items.now d _ c.in_err-primitives.ensures)
+    search (rules, too_many g.K.Kind.model f c.args.head c.args.items.now d _ c.in_err-primitives.ensures)
 
 pub returns-in_err-check_legal : goal.returns-in_err-check_legal
 returns-in_err-check_legal g c f d =
-    let p = err_from_is_err_and c.from_residual-in_err-check_legal.result c.from_residual-in_err-check_legal.ensures.1 in
-    rw (p.1, p.2)
-    (illegal_one g.K.Kind.model f c.args.head c.args.items.now d _ c.in_ok-primitives.ensures _ c.in_err-check_legal.ensures)
+    search (rules, illegal_one g.K.Kind.model f c.args.head c.args.items.now d _ c.in_ok-primitives.ensures _ c.in_err-check_legal.ensures)
 
 pub measure-length-requires : goal.measure-length-requires
 measure-length-requires g c =

@@ -1,4 +1,4 @@
-use Rattle.std.proofs.Common.{sym, ◌∙◌, subst}
+use Rattle.std.proofs.Common.{rules, sym, ◌∙◌, subst}
 use Rattle.grammar.specs.Described.{ReadAs}
 use Rattle.loading.specs.Gives.{Gives}
 use Rattle.loading.proofs.Given.{gives_refused, gives_checked}
@@ -6,7 +6,7 @@ use Rattle.loading.proofs.load.load.Goals as goal
 
 pub returns-in_err-head : goal.returns-in_err-head
 returns-in_err-head g c =
-    gives_refused g.K.Kind.model c.args.reading.text.now _ _ (c.as_bytes.ensures.value ∙ c.name-name.ensures) c.from_residual.result _ c.from_residual.ensures.1 c.in_err-head.ensures
+    search (rules, gives_refused g.K.Kind.model c.args.reading.text.now c.read.new.draft _ (c.as_bytes.ensures.value ∙ c.name-name.ensures) _ c.in_err-head.ensures)
 
 pub returns : goal.returns
 returns g c =

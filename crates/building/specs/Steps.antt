@@ -1,36 +1,17 @@
 -- The steps that the numbers of a rewriting name, and what they make of a score.
-use Rattle.std.specs.Prelude.{ℕ, ◌&&◌, ◌||◌, List, [], ◌∷◌, is_some, Some, None, Ok, Err, Option, Result, ◌==◌, slice_index_or}
+use Rattle.std.specs.Prelude.{ℕ, ◌&&◌, ◌||◌, List, [], ◌∷◌, is_some, Some, None, Ok, Err, Option, Result, ◌==◌}
 use Rattle.algebra.specs.declared.rule.Rule.{Rule}
-use Rattle.algebra.specs.declared.rule.Rule.TheVariants.{
-  SequenceAssociative,
-  ParallelAssociative,
-  ParallelCommutative,
-  SequenceUnitLeft,
-  SequenceUnitRight,
-  ParallelUnit,
-  RestSplit,
-  RestBeside,
-  Exchange,
-}
 use Rattle.algebra.specs.declared.rule.Way.{Way}
-use Rattle.algebra.specs.declared.rule.Way.TheVariants.{Forth, Back}
 use Rattle.algebra.specs.Kind.{KindModel}
+use Rattle.algebra.specs.Numbered.{rule_numbered, way_numbered}
 use Rattle.algebra.specs.Score.{Score}
 use Rattle.algebra.specs.Rewrite.{rewritten}
 use Rattle.refusals.specs.declared.refusal.Refusal.{Refusal}
 use Rattle.refusals.specs.declared.refusal.Refusal.TheVariants.{BadValue, NoFit}
 use Rattle.refusals.specs.Checks.{Check, passed, unless}
+use Rattle.rewriting.specs.declared.step.Step.{Step}
 use Rattle.building.specs.declared.size.Size.{Size}
-use Rattle.building.specs.declared.step.Step.{Step}
 use Rattle.building.specs.Sizes.{sized}
-
--- The rules are numbered from 1 to 9, in their order.
-abbrev pub rule_numbered : ℕ → Option Rule
-rule_numbered n = slice_index_or (None ∷ Some SequenceAssociative ∷ Some ParallelAssociative ∷ Some ParallelCommutative ∷ Some SequenceUnitLeft ∷ Some SequenceUnitRight ∷ Some ParallelUnit ∷ Some RestSplit ∷ Some RestBeside ∷ Some Exchange ∷ []) n None
-
--- Way 0 is forth, and way 1 is back.
-abbrev pub way_numbered : ℕ → Option Way
-way_numbered n = slice_index_or (Some Forth ∷ Some Back ∷ []) n None
 
 -- The step of a rule and a way, if there are such, and of a split.
 abbrev pub step_of : Option Rule → Option Way → ℕ → Option Step

@@ -5,6 +5,6 @@ use Rattle.algebra.specs.declared.node.Node.{Node}
 use Rattle.algebra.specs.declared.node.Node.TheVariants.{Rest, Primitive}
 
 -- A piece's node; where there is none, an empty rest.
-abbrev pub node_of : Option Numbers → Node Numbers
-node_of (Some p) = Primitive p
-node_of None = Rest 0
+abbrev pub node_of_piece : Option Numbers → Node Numbers
+node_of_piece (Some p) = Primitive p
+node_of_piece None = Rest 0

@@ -1,12 +1,12 @@
 -- Sizes of scores, and what the limits say of them.
-use Rattle.std.proofs.Common.{◌≡◌, ℕ, ◌-◌, ◌<◌, ◌≤◌, List, length, take, drop, Ok, Err, sym, refl, ap, ◌∙◌, subst, arith}
-use Rattle.std.proofs.lemmas.List.{length-take-le}
+use Rattle.std.proofs.Common.{◌≡◌, ℕ, ◌<◌, ◌≤◌, List, length, Ok, Err, sym, refl, ap, ◌∙◌, subst, arith}
+use Rattle.std.proofs.lemmas.List.{length-map}
 use Rattle.std.proofs.lemmas.Bool.Decides.{nat_tests}
 use Rattle.algebra.specs.declared.numbers.Numbers.{Numbers}
 use Rattle.algebra.specs.declared.node.Node.{Node}
 use Rattle.algebra.specs.Kind.{KindModel}
 use Rattle.algebra.specs.Score.{Score, nodes, primitives, score_length}
-use Rattle.algebra.specs.Layout.{preorder}
+use Rattle.algebra.specs.Layout.{seen, view, preorder}
 use Rattle.algebra.specs.Limits.{Fits}
 use Rattle.refusals.specs.declared.refusal.Refusal.{Refusal}
 use Rattle.refusals.specs.declared.refusal.Refusal.TheVariants.{TooMany}
@@ -15,22 +15,15 @@ use Rattle.nodes.proofs.Parts.{length_preorder}
 use Rattle.building.specs.declared.size.Size.{Size}
 use Rattle.building.specs.Sizes.{size_of, few, size_limits, limits, sized}
 
--- the size of the score that the first nodes of a row are
-pub size_is : (K : KindModel) (s : Score) (xs : List (Node Numbers)) (n m l : ℕ) → n ≤ length xs → take n xs ≡ preorder s → l ≡ score_length K s
-    → (take (n - 0) (drop 0 xs) ≡ preorder s → m ≡ primitives s) → record { nodes = n; primitives = m; length = l } ≡ size_of K s
-size_is K s xs n m l inside stands long counted =
-    let none : n - 0 ≡ n = omega arith in
-    let size : n ≡ nodes s = sym (length-take-le n xs inside) ∙ ap length stands ∙ length_preorder s in
-    let count = counted (ap (λ k. take k xs) none ∙ stands) in
-    λ i. record { nodes = size i; primitives = count i; length = long i }
+-- the size of the score that the nodes of a kind are
+pub size_is : (K : KindModel) (s : Score) {P : Type 0} (f : P → Numbers) (row : List (Node P)) (m l : ℕ) → view f row ≡ preorder s → m ≡ primitives s → l ≡ score_length K s → record { nodes = length row; primitives = m; length = l } ≡ size_of K s
+size_is K s f row m l is count long =
+    let few : length row ≡ nodes s = sym (length-map row (seen f)) ∙ ap length is ∙ length_preorder s in
+    λ i. record { nodes = few i; primitives = count i; length = long i }
 
 -- what is answered of it
 pub sized_from : (K : KindModel) (s : Score) (size : Size) (k : Check) → size ≡ size_of K s → k ≡ all (size_limits size) → followed k (Ok size) ≡ sized K s
 sized_from K s size k is answer = λ i. followed ((answer ∙ ap (λ z. all (size_limits z)) is) i) (Ok (is i))
-
--- few enough nodes and primitives
-pub few_yes : (n m : ℕ) → n ≤ 1023 → m ≤ 170 → passed ≡ few n m
-few_yes n m h k = grind (arith, nat_tests)
 
 -- too many nodes
 pub few_no : (n m : ℕ) → 1023 < n → Err (TooMany n) ≡ few n m

@@ -2,8 +2,8 @@
 #![tactic(auto)]
 
 pub mod change;
+pub mod made;
 pub mod making;
-pub mod part;
 pub mod rewrite;
 pub mod size;
 pub mod step;

@@ -1,97 +1,56 @@
--- Counts over a row, node by node.
-use Rattle.std.proofs.Common.{◌≡◌, ℕ, suc, ◌+◌, ◌-◌, ◌*◌, ◌<◌, ◌≤◌, cond, eqb, List, [], ◌∷◌, ◌++◌, length, get_or, take, drop, sym, refl, ap, ◌∙◌, arith}
-use Rattle.std.proofs.lemmas.List.{append_assoc, append-nil, length-map, drop_more, drop-drop, get_or-map}
-use Rattle.std.proofs.lemmas.Bool.{eq-eqb, ne_eqb}
+-- Counts of nodes.
+use Rattle.std.proofs.Common.{◌≡◌, ℕ, ◌*◌, ◌≤◌, Bool, true, false, cond, List, [], ◌∷◌, ◌++◌, refl, ap, ◌∙◌, arith}
+use Rattle.std.specs.List.{count_by}
+use Rattle.std.proofs.lemmas.List.Sums.{sum_by-cons, sum_by-append}
 use Rattle.algebra.specs.declared.numbers.Numbers.{Numbers}
 use Rattle.algebra.specs.declared.node.Node.{Node}
 use Rattle.algebra.specs.declared.node.Node.TheVariants.{Rest, Primitive, Sequence, Parallel}
 use Rattle.algebra.specs.Kind.{KindModel}
-use Rattle.algebra.specs.Score.{Score, Score.rest, Score.primitive, Score.sequence, Score.parallel, nodes, primitives, score_length}
+use Rattle.algebra.specs.Score.{Score, Score.rest, Score.primitive, Score.sequence, Score.parallel, nodes, primitives}
 use Rattle.algebra.specs.Cuts.{reversed, uneven}
-use Rattle.algebra.specs.Layout.{seen, view, preorder, stack, score_at, score_of}
+use Rattle.algebra.specs.Layout.{seen, view, preorder}
 use Rattle.algebra.proofs.CutSizes.{reverse_size}
-use Rattle.nodes.specs.Held.{Whole}
-use Rattle.nodes.specs.Rows.{Wrote}
-use Rattle.nodes.proofs.Overlays.{overlaid_here}
-use Rattle.nodes.proofs.Parts.{stack_preorder, from_place, behind}
-use Rattle.nodes.proofs.Readings.{at, begins, long}
-use Rattle.cuts.specs.declared.part.Part.{Part}
-use Rattle.cuts.specs.Parts.{Parts}
-use Rattle.cuts.specs.Counts.{primitives_here, primitive_nodes, padding_here}
-use Rattle.cuts.proofs.Parting.{standing}
 
-primitive_nodes_append : (xs ys : List (Node Numbers)) → primitive_nodes (xs ++ ys) ≡ primitive_nodes xs + primitive_nodes ys
-primitive_nodes_append [] ys = omega arith
-primitive_nodes_append (x ∷ xs) ys = omega (arith, primitive_nodes_append xs ys)
+-- whether a node is a primitive
+abbrev pub is_primitive : {P : Type 0} → Node P → Bool
+is_primitive (Rest d) = false
+is_primitive (Primitive x) = true
+is_primitive Sequence = false
+is_primitive Parallel = false
 
-pub primitives_counted : (s : Score) → primitive_nodes (preorder s) ≡ primitives s
+-- as a number
+abbrev one : {P : Type 0} → Node P → ℕ
+one x = cond (is_primitive x) 1 0
+
+primitives_counted : (s : Score) → count_by is_primitive (preorder s) ≡ primitives s
 primitives_counted (rest d) = refl
 primitives_counted (primitive p) = refl
-primitives_counted (sequence a b) = omega (arith, primitive_nodes_append (preorder a) (preorder b), primitives_counted a, primitives_counted b)
-primitives_counted (parallel a b) = omega (arith, primitive_nodes_append (preorder a) (preorder b), primitives_counted a, primitives_counted b)
+primitives_counted (sequence a b) =
+    omega (arith, sum_by-cons one Sequence (preorder a ++ preorder b), sum_by-append one (preorder a) (preorder b), primitives_counted a, primitives_counted b)
+primitives_counted (parallel a b) =
+    omega (arith, sum_by-cons one Parallel (preorder a ++ preorder b), sum_by-append one (preorder a) (preorder b), primitives_counted a, primitives_counted b)
 
-pub primitives_here_most : (x : Node Numbers) → primitives_here x ≤ 1
-primitives_here_most (Rest d) = omega arith
-primitives_here_most (Primitive p) = omega arith
-primitives_here_most Sequence = omega arith
-primitives_here_most Parallel = omega arith
+module _ {P : Type 0} (f : P → Numbers) where
+  same : (x : Node P) → one x ≡ one (seen f x)
+  same (Rest d) = refl
+  same (Primitive x) = refl
+  same Sequence = refl
+  same Parallel = refl
 
--- one more node of a part of a row
-pub one_node : {P : Type 0} (f : P → Numbers) (row : List (Node P)) (k to : ℕ) (node : Node P) → k < to → to ≤ length row → node ≡ get_or row k node
-    → primitive_nodes (take (to - k) (drop k (view f row))) ≡ primitives_here (seen f node) + primitive_nodes (take (to - (k + 1)) (drop (k + 1) (view f row)))
-one_node f row k to node h l read =
-    let xs = view f row in
-    let inside : k < length xs = omega (arith, length-map row (seen f)) in
-    let next : to - k ≡ suc (to - (k + 1)) = omega arith in
-    let is : get_or xs k (seen f node) ≡ seen f node = get_or-map (seen f) row k node (seen f node) (omega arith) ∙ ap (seen f) (sym read) in
-    (λ i. primitive_nodes (take (next i) (drop_more xs k (seen f node) inside i))) ∙ ap (λ x. primitives_here x + primitive_nodes (take (to - (k + 1)) (drop (k + 1) xs))) is
+  counted_view : (row : List (Node P)) → count_by is_primitive row ≡ count_by is_primitive (view f row)
+  counted_view [] = refl
+  counted_view (x ∷ row) = omega (arith, sum_by-cons one x row, sum_by-cons one (seen f x) (view f row), same x, counted_view row)
 
--- a score that was written stands there
-pub wrote_score : (xs ys : List (Node Numbers)) (to end : ℕ) (s : Score) → to + length (preorder s) ≤ length xs → Wrote xs ys to end (preorder s) → take (end - to) (drop to ys) ≡ preorder s
-wrote_score xs ys to end s h w =
-    let n : end - to ≡ length (preorder s) = omega arith in
-    (λ i. take (n i) (drop to (w.row i))) ∙ overlaid_here xs to (preorder s) h
+  -- the primitives of the score that a row is
+  pub counted : (row : List (Node P)) (s : Score) → view f row ≡ preorder s → count_by is_primitive row ≡ primitives s
+  counted row s is = counted_view row ∙ ap (count_by is_primitive) is ∙ primitives_counted s
 
--- the nodes that reversing adds for some scores
-abbrev pub paddings : KindModel → List Score → ℕ
-paddings K [] = 0
-paddings K (s ∷ ss) = 2 * uneven K s + paddings K ss
+uneven_most : (K : KindModel) (s : Score) → uneven K s ≤ nodes s
+uneven_most K (rest d) = omega arith
+uneven_most K (primitive p) = omega arith
+uneven_most K (sequence a b) = omega (arith, uneven_most K a, uneven_most K b)
+uneven_most K (parallel a b) = grind (arith, uneven_most K a, uneven_most K b)
 
-module _ (K : KindModel) where
-  pub padding_here_most : (s : Score) → padding_here K s ≤ 2
-  padding_here_most (rest d) = omega arith
-  padding_here_most (primitive p) = omega arith
-  padding_here_most (sequence a b) = omega arith
-  padding_here_most (parallel a b) = grind arith
-
-  pub even_parallel : {P : Type 0} {f : P → Numbers} (row : List (Node P)) (k : ℕ) {left right : Part} → Parts K f parallel row k left right → left.length ≡ right.length → 0 ≡ padding_here K (standing f row k)
-  even_parallel row k p e = sym (ap (padding_here K) p.is ∙ (λ i. cond (eq-eqb _ _ (sym p.left_long ∙ e ∙ p.right_long) i) 0 2))
-
-  pub uneven_parallel : {P : Type 0} {f : P → Numbers} (row : List (Node P)) (k : ℕ) {left right : Part} → Parts K f parallel row k left right → (left.length ≡ right.length → ⊥) → 2 ≡ padding_here K (standing f row k)
-  uneven_parallel row k p ne = sym (ap (padding_here K) p.is ∙ (λ i. cond (ne_eqb _ _ (λ e. ne (p.left_long ∙ e ∙ sym p.right_long)) i) 0 2))
-
-  both_parts : (a b : Score) (ys : List (Node Numbers)) → paddings K (stack ((preorder a ++ preorder b) ++ ys)) ≡ 2 * uneven K a + (2 * uneven K b + paddings K (stack ys))
-  both_parts a b ys =
-      ap (paddings K) (ap stack (append_assoc (preorder a) (preorder b) ys) ∙ stack_preorder a (preorder b ++ ys) ∙ ap (λ ss. a ∷ ss) (stack_preorder b ys))
-
-  first_node : (s : Score) (ys : List (Node Numbers)) → paddings K (stack (preorder s ++ ys)) ≡ padding_here K s + paddings K (stack (drop 1 (preorder s ++ ys)))
-  first_node (rest d) ys = omega arith
-  first_node (primitive p) ys = omega arith
-  first_node (sequence a b) ys = omega (arith, ap (paddings K) (stack_preorder (sequence a b) ys), both_parts a b ys)
-  first_node (parallel a b) ys =
-      let own : cond (eqb (score_length K a) (score_length K b)) 0 2 ≡ 2 * cond (eqb (score_length K a) (score_length K b)) 0 1 = grind arith in
-      omega (arith, ap (paddings K) (stack_preorder (parallel a b) ys), both_parts a b ys)
-
-  module _ (xs : List (Node Numbers)) (whole : Whole xs) where
-    pub one_padding : (k : ℕ) → k < length xs → paddings K (stack (drop k xs)) ≡ padding_here K (score_at xs k) + paddings K (stack (drop (k + 1) xs))
-    one_padding k h =
-        let w = at xs whole k h in
-        let from : drop k xs ≡ preorder w.part ++ behind w.path = ap (λ n. drop n xs) (sym w.there) ∙ from_place xs (score_of xs) whole w.path in
-        ap (λ ys. paddings K (stack ys)) from ∙ first_node w.part (behind w.path)
-        ∙ (λ i. padding_here K (sym (begins xs whole k h) i) + paddings K (stack (drop 1 (sym from i))))
-        ∙ ap (λ ys. padding_here K (score_at xs k) + paddings K (stack ys)) (drop-drop 1 k xs)
-
-    pub all_paddings : length xs + paddings K (stack (drop 0 xs)) ≡ nodes (reversed K (score_of xs))
-    all_paddings =
-        let alone : stack xs ≡ score_of xs ∷ [] = ap stack (whole ∙ sym (append-nil (preorder (score_of xs)))) ∙ stack_preorder (score_of xs) [] in
-        omega (arith, ap (paddings K) alone, long xs whole, (reverse_size K (score_of xs)).1)
+-- a reverse has at most three times as many nodes
+pub reversed_most : (K : KindModel) (s : Score) → nodes (reversed K s) ≤ 3 * nodes s
+reversed_most K s = omega (arith, (reverse_size K s).1, uneven_most K s)

@@ -1,5 +1,4 @@
-pub mod Parting
-pub mod Pieces
+pub mod Putting
 pub mod Taking
 pub mod Dropping
 pub mod Reversing

@@ -1,4 +1,2 @@
-pub mod Parts
-pub mod Ends
+pub mod Pieces
 pub mod Padding
-pub mod Counts

@@ -4,7 +4,7 @@ ghost use Rattle.algebra.specs.Cuts.{dropped};
 ghost use Rattle.algebra.specs.Layout.{preorder};
 ghost use Rattle.algebra.specs.Score.{nodes};
 
-use crate::ends::tail_node;
+use crate::piece::piece_node;
 use algebra::node::Node;
 use kinds::kind::Kind;
 use nodes::join::Join;
@@ -21,10 +21,11 @@ pub fn drop_into<K: Kind>(score: &Score<'_, K>, ticks: u32, out: &mut NodeList<K
     }
     match score.look() {
         Look::Rest(duration) => out.push(Node::Rest(duration.saturating_sub(ticks))),
-        Look::Primitive(primitive) => out.push(tail_node(primitive, ticks)),
+        Look::Primitive(primitive) => out.push(piece_node(primitive.tail(ticks))),
         Look::Pair(Join::Sequence, left, right) => {
-            if left.length() <= ticks {
-                drop_into(&right, ticks - left.length(), out);
+            let length = left.length();
+            if length <= ticks {
+                drop_into(&right, ticks - length, out);
             } else {
                 out.push(Node::Sequence);
                 drop_into(&left, ticks, out);

@@ -1,9 +1,8 @@
-// The first ticks of a score, what follows them, and its reverse, from one row of nodes into another.
+// The first ticks of a score, what follows them, and its reverse, put behind the nodes of a list.
 #![tactic(auto)]
 
 pub mod count;
 pub mod drop;
-pub mod ends;
-pub mod part;
+pub mod piece;
 pub mod reverse;
 pub mod take;

@@ -1,60 +1,48 @@
 // The reverse of a score.
-ghost use Rattle.std.specs.Prelude.{◌+◌, ◌<◌, ◌≤◌, length};
+ghost use Rattle.std.specs.Prelude.{◌≡◌, ◌+◌, ◌≤◌, ◌++◌, length};
 ghost use Rattle.algebra.specs.Cuts.{reversed};
-ghost use Rattle.algebra.specs.Layout.{view, preorder, score_at};
-ghost use Rattle.nodes.specs.Held.{Held};
-ghost use Rattle.nodes.specs.Spans.{Spanned};
-ghost use Rattle.nodes.specs.Rows.{Wrote};
+ghost use Rattle.algebra.specs.Layout.{preorder};
+ghost use Rattle.algebra.specs.Score.{nodes};
 ghost use Rattle.cuts.specs.Padding.{padding};
 
-use crate::part::{Parted, parts_at};
 use algebra::node::Node;
 use kinds::kind::Kind;
-use nodes::span::Span;
-use nodes::write::put;
+use nodes::join::Join;
+use nodes::list::NodeList;
+use nodes::score::{Look, Score};
 
-// Writes what comes before a part beside one of another length, and returns the end of what is written.
-fn put_padding<K: Kind>(target: &mut [Node<K>], to: usize, own: u32, other: u32) -> usize
-    requires { to + length (padding other own) ≤ length target.old }
-    ensures { Wrote (view K.Kind.numbers_of target.old) (view K.Kind.numbers_of target.new) to result (padding other own) }
+// Puts what comes before a part beside one of another length behind the nodes of a list.
+fn pad_into<K: Kind>(own: u32, other: u32, out: &mut NodeList<K>)
+    requires { length out.old + length (padding other own) ≤ 1023 }
+    ensures { out.new ≡ out.old ++ padding other own }
 {
     if own < other {
-        let next = put(target, to, Node::Sequence);
-        put(target, next, Node::Rest(other - own))
-    } else {
-        to
+        out.push(Node::Sequence);
+        out.push(Node::Rest(other - own));
     }
 }
 
-// Writes the reverse of the score that begins at a node, and returns the end of what is written.
-pub fn reverse_into<K: Kind>(
-    row: &[Node<K>],
-    spans: &[Span],
-    at: usize,
-    target: &mut [Node<K>],
-    to: usize,
-) -> usize
-    requires held { Held (view K.Kind.numbers_of row.now) }
-    requires inside { at < length row.now }
-    requires room { length row.now ≤ length spans.now }
-    requires spanned { Spanned K.Kind.model (view K.Kind.numbers_of row.now) spans.now 0 }
-    requires fits { to + length (preorder (reversed K.Kind.model (score_at (view K.Kind.numbers_of row.now) at))) ≤ length target.old }
-    ensures { Wrote (view K.Kind.numbers_of target.old) (view K.Kind.numbers_of target.new) to result (preorder (reversed K.Kind.model (score_at (view K.Kind.numbers_of row.now) at))) }
+// Puts the reverse of a score behind the nodes of a list.
+pub fn reverse_into<K: Kind>(score: &Score<'_, K>, out: &mut NodeList<K>)
+    requires { length out.old + nodes (reversed K.Kind.model score.now) ≤ 1023 }
+    ensures { out.new ≡ out.old ++ preorder (reversed K.Kind.model score.now) }
 {
-    match parts_at(row, spans, at) {
-        Parted::Rest(ticks) => put(target, to, Node::Rest(ticks)),
-        Parted::Primitive(primitive) => put(target, to, Node::Primitive(primitive.reverse())),
-        Parted::Sequence(left, right) => {
-            let next = put(target, to, Node::Sequence);
-            let next = reverse_into(row, spans, right.at, target, next);
-            reverse_into(row, spans, left.at, target, next)
+    match score.look() {
+        Look::Rest(duration) => out.push(Node::Rest(duration)),
+        Look::Primitive(primitive) => out.push(Node::Primitive(primitive.reverse())),
+        Look::Pair(Join::Sequence, left, right) => {
+            out.push(Node::Sequence);
+            reverse_into(&right, out);
+            reverse_into(&left, out);
         }
-        Parted::Parallel(left, right) => {
-            let next = put(target, to, Node::Parallel);
-            let start = put_padding(target, next, left.length, right.length);
-            let next = reverse_into(row, spans, left.at, target, start);
-            let start = put_padding(target, next, right.length, left.length);
-            reverse_into(row, spans, right.at, target, start)
+        Look::Pair(Join::Parallel, left, right) => {
+            let first = left.length();
+            let second = right.length();
+            out.push(Node::Parallel);
+            pad_into(first, second, out);
+            reverse_into(&left, out);
+            pad_into(second, first, out);
+            reverse_into(&right, out);
         }
     }
 }

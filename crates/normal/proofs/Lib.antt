@@ -1,3 +1,2 @@
 pub mod Placings
-pub mod Parts
 pub mod Writings

@@ -3,7 +3,7 @@ use Rattle.std.specs.Prelude.{List, map}
 use Rattle.std.specs.List.{AllByRecursion}
 use Rattle.algebra.specs.Kind.{KindModel, LegalNumbers}
 use Rattle.algebra.specs.Score.{Placed}
-use Rattle.normal.specs.declared.onsets.PlacedNumbers.{PlacedNumbers}
+use Rattle.normal.specs.declared.placed.PlacedNumbers.{PlacedNumbers}
 
 -- A placed primitive of the code as one of the algebra.
 abbrev pub placed_of : PlacedNumbers → Placed
@@ -14,5 +14,5 @@ abbrev pub all_placed : List PlacedNumbers → List Placed
 all_placed xs = map placed_of xs
 
 -- The numbers of each are legal.
-abbrev pub AllLegal : KindModel → List PlacedNumbers → Type 0
-AllLegal K xs = AllByRecursion (λ x. LegalNumbers K x.numbers) xs
+abbrev pub AllLegal : KindModel → List Placed → Type 0
+AllLegal K xs = AllByRecursion (λ x. LegalNumbers K x.what) xs

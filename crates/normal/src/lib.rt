@@ -1,7 +1,7 @@
-// The normal form of a score that stands in a row of nodes, written into another row.
+// What scores mean, and their normal forms.
 #![tactic(auto)]
 
 pub mod lines;
-pub mod listing;
+pub mod meaning;
 pub mod normal;
-pub mod onsets;
+pub mod placed;

@@ -1,16 +1,17 @@
-// The lines of placed primitives, written into a row of nodes.
-ghost use Rattle.std.specs.Prelude.{◌≡◌, ◌+◌, ◌-◌, ◌*◌, ◌≤◌, max, length as length_of};
+// The lines of placed primitives.
+ghost use Rattle.std.specs.Prelude.{◌≡◌, ◌+◌, ◌≤◌, ◌++◌, length as length_of};
 ghost use Rattle.algebra.specs.Kind.{LegalNumbers};
-ghost use Rattle.algebra.specs.Layout.{view, preorder};
-ghost use Rattle.nodes.specs.Rows.{Wrote};
-ghost use Rattle.normal.specs.Placing.{AllLegal};
+ghost use Rattle.algebra.specs.Layout.{preorder};
+ghost use Rattle.algebra.specs.Score.{nodes};
+ghost use Rattle.normal.specs.Placing.{placed_of};
 ghost use Rattle.normal.specs.Writing.{line_of, lines_of};
 
-use crate::onsets::PlacedNumbers;
+use crate::meaning::Meaning;
+use crate::placed::PlacedNumbers;
 use algebra::node::Node;
 use algebra::numbers::Numbers;
 use kinds::kind::Kind;
-use nodes::write::put;
+use nodes::list::NodeList;
 
 // The primitive with just these numbers, which are legal.
 pub fn primitive_of<K: Kind>(numbers: Numbers) -> K
@@ -20,41 +21,35 @@ pub fn primitive_of<K: Kind>(numbers: Numbers) -> K
     K::make(numbers).unwrap()
 }
 
-// Writes the line of a placed primitive in a score of a length, and returns the end of what is written.
-pub fn write_line<K: Kind>(
-    length: u32,
-    item: PlacedNumbers,
-    target: &mut [Node<K>],
-    to: usize,
-) -> usize
+// Puts the line of a placed primitive in a score of a length behind the nodes of a list.
+fn write_line<K: Kind>(length: u32, item: PlacedNumbers, out: &mut NodeList<K>)
     requires legal { LegalNumbers K.Kind.model item.numbers }
-    requires fits { to + 5 ≤ length_of target.old }
-    ensures { Wrote (view K.Kind.numbers_of target.old) (view K.Kind.numbers_of target.new) to result (preorder (line_of K.Kind.model length item)) }
+    requires room { length_of out.old + 5 ≤ 1023 }
+    ensures { out.new ≡ out.old ++ preorder (line_of K.Kind.model length (placed_of item)) }
 {
     let primitive = primitive_of::<K>(item.numbers);
     let left = length.saturating_sub(item.onset);
     let after = left.saturating_sub(primitive.length());
-    let first = put(target, to, Node::Sequence);
-    let second = put(target, first, Node::Rest(item.onset));
-    let third = put(target, second, Node::Sequence);
-    let fourth = put(target, third, Node::Primitive(primitive));
-    put(target, fourth, Node::Rest(after))
+    out.push(Node::Sequence);
+    out.push(Node::Rest(item.onset));
+    out.push(Node::Sequence);
+    out.push(Node::Primitive(primitive));
+    out.push(Node::Rest(after));
 }
 
-// Writes the lines of placed primitives in a score of a length, put together in their order, and returns the end of what is written.
-pub fn write_lines<K: Kind>(length: u32, placed: &[PlacedNumbers], target: &mut [Node<K>]) -> usize
-    requires legal { AllLegal K.Kind.model placed.now }
-    requires fits { max 1 (6 * length_of placed.now - 1) ≤ length_of target.old }
-    ensures { Wrote (view K.Kind.numbers_of target.old) (view K.Kind.numbers_of target.new) 0 result (preorder (lines_of K.Kind.model length placed.now)) }
+// Puts the lines of placed primitives in a score of a length, together in their order, behind the nodes of a list.
+pub fn write_lines<K: Kind>(meaning: &Meaning<K>, out: &mut NodeList<K>)
+    requires { length_of out.old + nodes (lines_of K.Kind.model meaning.now.length meaning.now.placed) ≤ 1023 }
+    ensures { out.new ≡ out.old ++ preorder (lines_of K.Kind.model meaning.now.length meaning.now.placed) }
 {
-    if placed.len() == 0 {
-        return put(target, 0, Node::Rest(length));
+    match meaning.placed.items().split_last() {
+        None => out.push(Node::Rest(meaning.length)),
+        Some((last, rest)) => {
+            for item in rest {
+                out.push(Node::Parallel);
+                write_line(meaning.length, *item, out);
+            }
+            write_line(meaning.length, *last, out);
+        }
     }
-    let last = placed.len() - 1;
-    let mut to = 0;
-    for at in 0..last {
-        to = put(target, to, Node::Parallel);
-        to = write_line(length, placed[at], target, to);
-    }
-    write_line(length, placed[last], target, to)
 }

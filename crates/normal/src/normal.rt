@@ -1,27 +1,19 @@
-// The normal form of a score that stands in a row.
-ghost use Rattle.std.specs.Prelude.{◌≤◌, length};
-ghost use Rattle.algebra.specs.Layout.{view, preorder, score_of};
+// The normal form of a score.
+ghost use Rattle.std.specs.Prelude.{◌≡◌, ◌+◌, ◌≤◌, ◌++◌, length};
+ghost use Rattle.algebra.specs.Layout.{preorder};
 ghost use Rattle.algebra.specs.Normal.{normal};
-ghost use Rattle.nodes.specs.Held.{Held};
-ghost use Rattle.nodes.specs.Rows.{Wrote};
-ghost use Rattle.nodes.specs.Spans.{Spanned};
+ghost use Rattle.algebra.specs.Score.{nodes};
 
 use crate::lines::write_lines;
-use crate::onsets::{BLANK, place_primitives};
-use algebra::node::Node;
+use crate::meaning::Meaning;
 use kinds::kind::Kind;
-use nodes::span::Span;
+use nodes::list::NodeList;
+use nodes::score::Score;
 
-// Writes the normal form of a row's score, and returns the end of what is written.
-pub fn normalise_into<K: Kind>(row: &[Node<K>], spans: &[Span], target: &mut [Node<K>]) -> usize
-    requires held { Held (view K.Kind.numbers_of row.now) }
-    requires room { length row.now ≤ length spans.now }
-    requires spanned { Spanned K.Kind.model (view K.Kind.numbers_of row.now) spans.now 0 }
-    requires fits { 1019 ≤ length target.old }
-    ensures { Wrote (view K.Kind.numbers_of target.old) (view K.Kind.numbers_of target.new) 0 result (preorder (normal K.Kind.model (score_of (view K.Kind.numbers_of row.now)))) }
+// Puts the normal form of a score behind the nodes of a list.
+pub fn normalise_into<K: Kind>(score: &Score<'_, K>, out: &mut NodeList<K>)
+    requires { length out.old + nodes (normal K.Kind.model score.now) ≤ 1023 }
+    ensures { out.new ≡ out.old ++ preorder (normal K.Kind.model score.now) }
 {
-    let mut placed = [BLANK; 170];
-    let count = place_primitives(row, spans, &mut placed);
-    let whole = spans[0];
-    write_lines(whole.length, &placed[..count], target)
+    write_lines(&Meaning::of(score), out);
 }

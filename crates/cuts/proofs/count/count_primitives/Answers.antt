@@ -1,17 +1,12 @@
-use Rattle.std.proofs.Common.{◌≡◌, ◌-◌, take, drop, ap, arith}
-use Rattle.algebra.specs.Layout.{seen, view}
-use Rattle.cuts.specs.Counts.{primitive_nodes}
-use Rattle.cuts.proofs.Counting.{primitives_counted, primitives_here_most, one_node}
+use Rattle.std.proofs.Common.{◌∙◌, rules, tests}
+use Rattle.std.proofs.lemmas.List.Sums.{length-filter}
+use Rattle.std.proofs.lemmas.Iterator.{YieldsList-from_slice}
+use Rattle.std.proofs.lemmas.Iterator.Consumers.{YieldsList-from_filter, count_from_yields_List}
+use Rattle.cuts.proofs.Counting.{is_primitive, counted}
 use Rattle.cuts.proofs.count.count_primitives.Goals as goal
-
-pub loop-at-preserved : goal.loop-at-preserved
-loop-at-preserved g c =
-    let f = g.K.Kind.numbers_of in
-    let node = c.index-row-at.result in
-    let one = one_node f c.args.row.now c.loop-at.at c.args.to node c.loop-at-test.true c.requires.inside c.index-row-at.is in
-    (omega (arith, primitives_here_most (seen f node)), omega arith)
 
 pub returns : goal.returns
 returns g c = λ s is.
-    let none : c.args.to - c.loop-at.at ≡ 0 = omega arith in
-    omega (arith, c.loop-at.invariant.1, ap (λ n. primitive_nodes (take n (drop c.loop-at.at (view g.K.Kind.numbers_of c.args.row.now)))) none, ap primitive_nodes is, primitives_counted s)
+    let row = c.args.row.now in
+    count_from_yields_List c.filter.result _ c.count.ensures.ran (YieldsList-from_filter _ is_primitive (YieldsList-from_slice row cc) c.filter.ensures.closure (λ x b q k. search (rules, tests)))
+    ∙ length-filter is_primitive row ∙ counted g.K.Kind.numbers_of row s is

@@ -1,11 +1,10 @@
-use Rattle.std.proofs.Common.{◌≡◌, ◌+◌, ◌++◌, [], ◌∷◌, length, sym, ap, ◌∙◌, arith}
-use Rattle.algebra.specs.declared.node.Node.TheVariants.{Sequence, Parallel}
+use Rattle.std.proofs.Common.{◌++◌, sym, ap, ◌∙◌, arith}
 use Rattle.algebra.specs.Layout.{preorder}
 use Rattle.algebra.specs.Score.{nodes}
 use Rattle.algebra.specs.Cuts.{dropped}
-use Rattle.nodes.proofs.Lists.{put_long, put_pair}
-use Rattle.nodes.proofs.Parts.{length_preorder, some_node}
+use Rattle.nodes.proofs.Lists.{put_long}
 use Rattle.nodes.proofs.Standings.{pair_nodes}
+use Rattle.cuts.proofs.Putting.{put_nodes}
 use Rattle.cuts.proofs.Dropping.{drop_none, drop_within, drop_both}
 use Rattle.cuts.proofs.drop.+drop_into.Goals as goal
 
@@ -15,23 +14,16 @@ push_score-requires g t c = omega (arith, ap nodes (drop_none g.K.Kind.model c.a
 pub returns-then-ticks-eq0 : goal.returns-then-ticks-eq0
 returns-then-ticks-eq0 g t c = c.push_score.ensures ∙ ap (λ s. c.args.out.now ++ preorder s) (sym (drop_none g.K.Kind.model c.args.ticks c.args.score.now c.if-ticks-eq0.true))
 
-pub drop_into-requires-else-length-ticks : goal.drop_into-requires-else-length-ticks
-drop_into-requires-else-length-ticks g t c κs within =
-    let x = c.in-Pair-Sequence-default-default in
-    let w = drop_within g.K.Kind.model c.args.score.now x.left x.right x.field-0 c.args.ticks x.ensures.is c.if-ticks-eq0.false x.field-0-is (omega (arith, c.length.ensures.length, c.if-length-ticks.false)) in
-    (omega (arith, ap nodes x.ensures.is, pair_nodes x.field-0 x.left x.right), (within, omega (arith, ap nodes w, put_long c.args.out.now _ c.push-else-length-ticks.ensures, some_node x.right, c.requires)))
-
 pub push_score-requires-else-length-ticks : goal.push_score-requires-else-length-ticks
 push_score-requires-else-length-ticks g t c =
     let K = g.K.Kind.model in
     let x = c.in-Pair-Sequence-default-default in
-    let w = drop_within K c.args.score.now x.left x.right x.field-0 c.args.ticks x.ensures.is c.if-ticks-eq0.false x.field-0-is (omega (arith, c.length.ensures.length, c.if-length-ticks.false)) in
-    omega (arith, ap nodes w, put_long c.args.out.now _ c.push-else-length-ticks.ensures, put_long c.push-else-length-ticks.new.self _ c.drop_into-else-length-ticks.ensures, length_preorder (dropped K c.args.ticks x.left), c.requires)
+    let w = drop_within K c.args.score.now x.left x.right x.field-0 c.args.ticks x.ensures.is c.if-ticks-eq0.false x.field-0-is (omega (arith, c.length-length.ensures.length, c.if-length-ticks.false)) in
+    omega (arith, ap nodes w, put_long c.args.out.now _ c.push-else-length-ticks.ensures, put_nodes c.push-else-length-ticks.new.self (dropped K c.args.ticks x.left) c.drop_into-else-length-ticks.ensures, c.requires)
 
-pub returns-else-length-ticks : goal.returns-else-length-ticks
-returns-else-length-ticks g t c =
+pub drop_into-requires-in-Pair-Parallel-default-default-2 : goal.drop_into-requires-in-Pair-Parallel-default-default-2
+drop_into-requires-in-Pair-Parallel-default-default-2 g t c κs within =
     let K = g.K.Kind.model in
-    let x = c.in-Pair-Sequence-default-default in
-    let w = drop_within K c.args.score.now x.left x.right x.field-0 c.args.ticks x.ensures.is c.if-ticks-eq0.false x.field-0-is (omega (arith, c.length.ensures.length, c.if-length-ticks.false)) in
-    put_pair c.args.out.now Sequence (preorder (dropped K c.args.ticks x.left)) (preorder x.right) c.push-else-length-ticks.ensures c.drop_into-else-length-ticks.ensures c.push_score-else-length-ticks.ensures
-    ∙ ap (λ s. c.args.out.now ++ preorder s) (sym w)
+    let x = c.in-Pair-Parallel-default-default in
+    let w = drop_both K c.args.score.now x.left x.right x.field-0 c.args.ticks x.ensures.is c.if-ticks-eq0.false x.field-0-is in
+    (omega (arith, ap nodes x.ensures.is, pair_nodes x.field-0 x.left x.right), (within, omega (arith, ap nodes w, put_long c.args.out.now _ c.push-in-Pair-Parallel-default-default.ensures, put_nodes c.push-in-Pair-Parallel-default-default.new.self (dropped K c.args.ticks x.left) c.drop_into-in-Pair-Parallel-default-default.ensures, c.requires)))

@@ -1,61 +1,32 @@
-use Rattle.std.proofs.Common.{[], ◌∷◌, sym, ap, arith}
-use Rattle.std.proofs.ByRecursion.{All-get_or}
-use Rattle.std.proofs.lemmas.List.{length-map, nil_from_length}
-use Rattle.algebra.specs.declared.node.Node.TheVariants.{Parallel}
-use Rattle.algebra.specs.Kind.{LegalNumbers}
-use Rattle.algebra.specs.Layout.{seen, preorder}
-use Rattle.nodes.proofs.Writings.{wrote_then, wrote_as}
-use Rattle.normal.specs.Writing.{lines_of}
-use Rattle.normal.proofs.Writings.{length_taken, opened_next, closed_all}
+use Rattle.std.proofs.Common.{rules, arith}
+use Rattle.nodes.proofs.Lists.{put_long}
+use Rattle.normal.proofs.Writings.{legal_last, legal_rest, room, one_more, the_last}
 use Rattle.normal.proofs.lines.write_lines.Goals as goal
 
-pub returns-then-placed-eq0 : goal.returns-then-placed-eq0
-returns-then-placed-eq0 g c =
-    wrote_as _ _ 0 _ (sym (ap (λ xs. preorder (lines_of g.K.Kind.model c.args.length xs)) (nil_from_length c.args.placed.now c.if-placed-eq0.true))) c.put.ensures
-
-pub put-to-requires : goal.put-to-requires
-put-to-requires g c =
-    let written = length_taken g.K.Kind.model c.args.length c.args.placed.now c.loop-at.at (omega arith) in
-    omega (arith, c.loop-at.invariant.ends, c.requires.fits)
-
-pub write_line-to-requires : goal.write_line-to-requires
-write_line-to-requires g c =
-    let K = g.K.Kind.model in
-    let written = length_taken K c.args.length c.args.placed.now c.loop-at.at (omega arith) in
-    record {
-      legal = All-get_or (λ x. LegalNumbers K x.numbers) c.args.placed.now c.loop-at.at _ (omega arith) c.requires.legal;
-      fits = omega (arith, c.loop-at.invariant.ends, c.put-to.ensures.ends, c.requires.fits);
-    }
-
-pub loop-at-preserved : goal.loop-at-preserved
-loop-at-preserved g c =
-    let K = g.K.Kind.model in
-    let n = c.args.length in
-    let items = c.args.placed.now in
-    let at = c.loop-at.at in
-    let written = length_taken K n items at (omega arith) in
-    let size = length-map c.args.target.now (seen g.K.Kind.numbers_of) in
-    let now-size = length-map c.loop-at.target (seen g.K.Kind.numbers_of) in
-    wrote_as _ _ 0 _ (opened_next K n items at _ (omega arith))
-    (wrote_then _ _ _ _ _ 0 _ _ (omega (arith, c.requires.fits)) c.loop-at.invariant
-    (wrote_then _ _ _ (Parallel ∷ []) _ _ _ _ (omega (arith, c.loop-at.invariant.ends, c.requires.fits)) c.put-to.ensures c.write_line-to.ensures))
+pub push-requires-in-loop-item : goal.push-requires-in-loop-item
+push-requires-in-loop-item g c =
+    let r = room g.K.Kind.model c.args.meaning.now.placed _ c.in-Some.rest.now _ c.items.ensures.placed c.in-Some.ensures.cases.0 c.args.meaning.now.length c.args.out.now c.loop-item.out c.loop-item.item-index c.loop-item.invariant (omega arith) c.requires in
+    (search rules, omega arith)
 
 pub write_line-requires : goal.write_line-requires
 write_line-requires g c =
-    let K = g.K.Kind.model in
-    let written = length_taken K c.args.length c.args.placed.now c.loop-at.at (omega arith) in
-    record {
-      legal = All-get_or (λ x. LegalNumbers K x.numbers) c.args.placed.now _ _ (omega arith) c.requires.legal;
-      fits = omega (arith, c.loop-at.invariant.ends, c.requires.fits);
-    }
+    let r = room g.K.Kind.model c.args.meaning.now.placed _ c.in-Some.rest.now _ c.items.ensures.placed c.in-Some.ensures.cases.0 c.args.meaning.now.length c.args.out.now c.loop-item.out c.loop-item.item-index c.loop-item.invariant (omega arith) c.requires in (
+      search rules,
+      (
+        legal_rest g.K.Kind.model c.args.meaning.now.placed _ c.in-Some.rest.now _ c.items.ensures.placed c.in-Some.ensures.cases.0 c.items.ensures.legal c.loop-item.item-index _ (omega arith),
+        omega (arith, put_long c.loop-item.out _ c.push-in-loop-item.ensures),
+      ),
+    )
 
-pub returns : goal.returns
-returns g c =
-    let K = g.K.Kind.model in
-    let n = c.args.length in
-    let items = c.args.placed.now in
-    let at = c.loop-at.at in
-    let written = length_taken K n items at (omega arith) in
-    let size = length-map c.args.target.now (seen g.K.Kind.numbers_of) in
-    wrote_as _ _ 0 _ (closed_all K n items at _ _ (omega arith) (omega arith))
-    (wrote_then _ _ _ _ _ 0 _ _ (omega (arith, c.requires.fits)) c.loop-at.invariant c.write_line.ensures)
+pub loop-item-preserved : goal.loop-item-preserved
+loop-item-preserved g c =
+    one_more g.K.Kind.model c.args.meaning.now.placed _ c.in-Some.rest.now _ c.items.ensures.placed c.in-Some.ensures.cases.0 c.args.meaning.now.length c.args.out.now c.loop-item.out c.loop-item.item-index c.loop-item.invariant _ (omega arith) c.push-in-loop-item.ensures c.write_line.ensures
+
+pub write_line-requires-in-Some : goal.write_line-requires-in-Some
+write_line-requires-in-Some g c =
+    let r = room g.K.Kind.model c.args.meaning.now.placed _ c.in-Some.rest.now _ c.items.ensures.placed c.in-Some.ensures.cases.0 c.args.meaning.now.length c.args.out.now c.loop-item.out c.loop-item.item-index c.loop-item.invariant (omega arith) c.requires in
+    (search rules, (legal_last g.K.Kind.model c.args.meaning.now.placed _ c.in-Some.rest.now _ c.items.ensures.placed c.in-Some.ensures.cases.0 c.items.ensures.legal, omega arith))
+
+pub returns-after-loop-item : goal.returns-after-loop-item
+returns-after-loop-item g c =
+    the_last g.K.Kind.model c.args.meaning.now.placed _ c.in-Some.rest.now _ c.items.ensures.placed c.in-Some.ensures.cases.0 c.args.meaning.now.length c.args.out.now c.loop-item.out c.loop-item.item-index c.loop-item.invariant (omega arith) c.write_line-in-Some.ensures

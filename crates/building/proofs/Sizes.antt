@@ -1,5 +1,5 @@
 -- Sizes of scores, and what the limits say of them.
-use Rattle.std.proofs.Common.{◌≡◌, ℕ, ◌<◌, ◌≤◌, List, length, Ok, Err, sym, refl, ap, ◌∙◌, subst, arith}
+use Rattle.std.proofs.Common.{◌≡◌, ℕ, ◌<◌, ◌≤◌, List, length, Ok, Err, OnOk, Result, sym, refl, ap, ◌∙◌, subst, arith}
 use Rattle.std.proofs.lemmas.List.{length-map}
 use Rattle.std.proofs.lemmas.Bool.Decides.{nat_tests}
 use Rattle.algebra.specs.declared.numbers.Numbers.{Numbers}
@@ -58,3 +58,8 @@ refused K s e h = at (all (limits K s)) h
     at : (k : Check) → Err e ≡ followed k (Ok (size_of K s)) → Err e ≡ k
     at (Ok u) h = absurd (grind arith)
     at (Err e') h = cc
+
+-- what holds anyway holds of an answer that is not a refusal
+pub on_always : {X E A : Type 0} (r : Result X E) → A → OnOk r A
+on_always (Ok x) a = a
+on_always (Err e) a = tt

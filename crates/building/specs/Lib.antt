@@ -1,5 +1,4 @@
-pub mod Sizes
 pub mod Changes
+pub mod Sizes
 pub mod Steps
 pub mod Rows
-pub mod Makings

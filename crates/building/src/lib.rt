@@ -1,8 +1,7 @@
-// Scores made from one that stands in a row: changed or rewritten, within the limits of a place.
+// Scores made from another: changed or rewritten, within the limits of a place.
 #![tactic(auto)]
 
 pub mod change;
-pub mod made;
 pub mod making;
 pub mod rewrite;
 pub mod size;

@@ -1,5 +1,5 @@
-pub mod Bags
+pub mod AnyOrder
 pub mod Sorts
-pub mod Ranking
+pub mod Bags
+pub mod Ends
 pub mod Partings
-pub mod Loops

@@ -12,8 +12,10 @@ use Rattle.algebra.proofs.Compare.{LegalPlaced, self, equal, flipped, before, Le
 use Rattle.algebra.proofs.Complete.{placed_equality}
 use Rattle.algebra.proofs.Differing.{all_count, occurs, none_differs}
 use Rattle.algebra.proofs.Sounds.{all_both}
-use Rattle.comparing.specs.Order.{NotBefore, Sorted}
+use Rattle.normal.specs.Placing.{AllLegal}
+use Rattle.comparing.specs.Order.{NotBefore, Sorted, InOrder}
 use Rattle.comparing.specs.Comparisons.{bag_answer, lesser_of, parting}
+use Rattle.comparing.proofs.Bags.{all_bag}
 
 -- x is the least whose counts differ, or there is none
 abbrev pub LeastDiffers : KindModel → List Placed → List Placed → Option Placed → Type 0
@@ -43,9 +45,6 @@ answer_bags xs ys xs' ys' p q None = refl
 answer_bags xs ys xs' ys' p q (Some x) = ap₂ (differs x) (p x) (q x)
 
 module _ (K : KindModel) (order : OrderLaws K) where
-  abbrev AllLegal : List Placed → Type 0
-  AllLegal xs = AllByRecursion (LegalPlaced K order) xs
-
   not_itself : (x : Placed) → LegalPlaced K order x → NotBefore K x x
   not_itself x l e = let s = self K order x l in let z : ◌≡◌ {A = ℕ} 0 1 = cc in omega arith
 
@@ -58,20 +57,20 @@ module _ (K : KindModel) (order : OrderLaws K) where
   )
 
   -- the other list begins behind x
-  behind : (x y : Placed) (ys : List Placed) → LegalPlaced K order x → AllLegal (y ∷ ys) → AllByRecursion (NotBefore K y) ys → compare_placed K x y ≡ Less → AllByRecursion (NotBefore K x) (y ∷ ys)
+  behind : (x y : Placed) (ys : List Placed) → LegalPlaced K order x → AllLegal K (y ∷ ys) → AllByRecursion (NotBefore K y) ys → compare_placed K x y ≡ Less → AllByRecursion (NotBefore K x) (y ∷ ys)
   behind x y ys l legal h c = (
     (λ d. let s = flipped K order x y l legal.0 in let z : ◌≡◌ {A = ℕ} 0 1 = cc in omega arith),
     All-weaker (λ w. LegalPlaced K order w × NotBefore K y w) (NotBefore K x) (λ w g d. g.1 (before K order w x y g.0 l legal.0 d c)) ys (all_both (LegalPlaced K order) (NotBefore K y) ys legal.1 h),
   )
 
-  smaller : (x y : Placed) (xs ys : List Placed) → LegalPlaced K order x → AllLegal (y ∷ ys) → AllByRecursion (NotBefore K x) xs → AllByRecursion (NotBefore K y) ys → compare_placed K x y ≡ Less
+  smaller : (x y : Placed) (xs ys : List Placed) → LegalPlaced K order x → AllLegal K (y ∷ ys) → AllByRecursion (NotBefore K x) xs → AllByRecursion (NotBefore K y) ys → compare_placed K x y ≡ Less
       → LeastDiffers K (x ∷ xs) (y ∷ ys) (Some x)
   smaller x y xs ys l legal h j c =
       ahead x xs (y ∷ ys) l h
       (λ z d. absent (NotBefore K x) (y ∷ ys) (behind x y ys l legal j c) z (λ n. n d))
       (absent (NotBefore K y) (y ∷ ys) (not_itself y legal.0, j) x (λ n. n c))
 
-  parting_differs : (xs ys : List Placed) → AllLegal xs → AllLegal ys → Sorted K xs → Sorted K ys → LeastDiffers K xs ys (parting K xs ys)
+  parting_differs : (xs ys : List Placed) → AllLegal K xs → AllLegal K ys → Sorted K xs → Sorted K ys → LeastDiffers K xs ys (parting K xs ys)
   parting_differs [] [] a b s t = λ x. refl
   parting_differs [] (y ∷ ys) a b s t = exchanged K (y ∷ ys) [] (Some y) (ahead y ys [] b.0 t.0 (λ _ _. refl) refl)
   parting_differs (x ∷ xs) [] a b s t = ahead x xs [] a.0 s.0 (λ _ _. refl) refl
@@ -82,8 +81,8 @@ module _ (K : KindModel) (order : OrderLaws K) where
       go more Equal c = subst (λ z. LeastDiffers K (x ∷ xs) (z ∷ ys) (parting K xs ys)) (equal K order x y a.0 b.0 c) (both_more K x xs ys (parting K xs ys) more)
       go more Greater c = exchanged K (y ∷ ys) (x ∷ xs) (Some y) (smaller y x ys xs b.0 a t.0 s.0 (flipped K order x y a.0 b.0 ∙ ap opposite c))
 
-  module _ (xs ys : List Placed) (a : AllLegal xs) (b : AllLegal ys) where
-    all_legal : AllLegal (xs ++ ys)
+  module _ (xs ys : List Placed) (a : AllLegal K xs) (b : AllLegal K ys) where
+    all_legal : AllLegal K (xs ++ ys)
     all_legal = All-append (LegalPlaced K order) xs ys a b
 
     legal : (x : Placed) → (count same_placed x xs ≡ count same_placed x ys → ⊥) → LegalPlaced K order x
@@ -110,13 +109,14 @@ module _ (K : KindModel) (order : OrderLaws K) where
         go Equal c = ap Some (equal K order x y (legal x p.0) (legal y q.0) c)
         go Greater c = absurd (q.0 (p.1 y (flipped K order x y (legal x p.0) (legal y q.0) ∙ ap opposite c)))
 
-    -- what parts the two lists put in order is the least whose counts differ in the lists themselves
-    pub parting_least : (xs' ys' : List Placed) → AllLegal xs' → AllLegal ys' → Sorted K xs' → Sorted K ys' → SameBag xs' xs → SameBag ys' ys
-        → parting K xs' ys' ≡ least K (counts_differ xs ys) (xs ++ ys)
-    parting_least xs' ys' a' b' s t p q =
-        one (parting K xs' ys') (least K (counts_differ xs ys) (xs ++ ys)) (other_bags K xs ys xs' ys' p q (parting K xs' ys') (parting_differs xs' ys' a' b' s t))
-        (least_differs _ (least_is K order (counts_differ xs ys) (xs ++ ys) all_legal))
+  -- what parts the two lists put in order is the least whose counts differ in the lists themselves
+  pub parting_least : (xs ys xs' ys' : List Placed) → InOrder K xs' → InOrder K ys' → SameBag xs' xs → SameBag ys' ys → parting K xs' ys' ≡ least K (counts_differ xs ys) (xs ++ ys)
+  parting_least xs ys xs' ys' x y p q =
+      let a = all_bag (LegalPlaced K order) xs' xs p x.legal in
+      let b = all_bag (LegalPlaced K order) ys' ys q y.legal in
+      one xs ys a b (parting K xs' ys') (least K (counts_differ xs ys) (xs ++ ys))
+      (other_bags K xs ys xs' ys' p q (parting K xs' ys') (parting_differs xs' ys' x.legal y.legal x.sorted y.sorted))
+      (least_differs xs ys a b _ (least_is K order (counts_differ xs ys) (xs ++ ys) (all_legal xs ys a b)))
 
-    pub parting_answer : (xs' ys' : List Placed) → AllLegal xs' → AllLegal ys' → Sorted K xs' → Sorted K ys' → SameBag xs' xs → SameBag ys' ys
-        → answer_of xs' ys' (parting K xs' ys') ≡ bag_answer K xs ys
-    parting_answer xs' ys' a' b' s t p q = answer_bags xs ys xs' ys' p q (parting K xs' ys') ∙ ap (answer_of xs ys) (parting_least xs' ys' a' b' s t p q)
+  pub parting_answer : (xs ys xs' ys' : List Placed) → InOrder K xs' → InOrder K ys' → SameBag xs' xs → SameBag ys' ys → answer_of xs' ys' (parting K xs' ys') ≡ bag_answer K xs ys
+  parting_answer xs ys xs' ys' x y p q = answer_bags xs ys xs' ys' p q (parting K xs' ys') ∙ ap (answer_of xs ys) (parting_least xs ys xs' ys' x y p q)

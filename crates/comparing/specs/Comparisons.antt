@@ -5,7 +5,7 @@ use Rattle.std.specs.declared.cmp.Ordering.{Ordering}
 use Rattle.algebra.specs.Kind.{KindModel}
 use Rattle.algebra.specs.Score.{Placed}
 use Rattle.algebra.specs.Compare.{Answer, Answer.same, Answer.lengths, Answer.differs, compare_placed, least, counts_differ, answer_of}
-use Rattle.normal.specs.declared.onsets.PlacedNumbers.{PlacedNumbers}
+use Rattle.normal.specs.declared.placed.PlacedNumbers.{PlacedNumbers}
 use Rattle.normal.specs.Placing.{placed_of}
 use Rattle.comparing.specs.declared.comparison.Comparison.{Comparison}
 use Rattle.comparing.specs.declared.comparison.Comparison.TheVariants.{Same, Lengths, Differs}

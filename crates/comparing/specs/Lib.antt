@@ -1,4 +1,2 @@
 pub mod Order
-pub mod AnyOrder
-pub mod Sorting
 pub mod Comparisons

@@ -7,7 +7,8 @@ use Rattle.algebra.specs.declared.numbers.Numbers.{Numbers}
 use Rattle.algebra.specs.Kind.{KindModel, smaller_first}
 use Rattle.algebra.specs.Score.{Placed}
 use Rattle.algebra.specs.Compare.{compare_placed}
-use Rattle.normal.specs.declared.onsets.PlacedNumbers.{PlacedNumbers}
+use Rattle.normal.specs.declared.placed.PlacedNumbers.{PlacedNumbers}
+use Rattle.normal.specs.Placing.{AllLegal}
 
 -- An order of all numbers: the kind's of those that are legal, and the others last.
 abbrev pub any_numbers : KindModel → Numbers → Numbers → Ordering
@@ -25,3 +26,8 @@ NotBefore K x y = compare_placed K y x ≡ Less → ⊥
 abbrev pub Sorted : KindModel → List Placed → Type 0
 Sorted K [] = Unit {0}
 Sorted K (x ∷ xs) = AllByRecursion (NotBefore K x) xs × Sorted K xs
+
+-- Placed primitives with legal numbers, in order.
+pub record InOrder (K : KindModel) (xs : List Placed) : Type 0 where
+  pub legal : AllLegal K xs
+  pub sorted : Sorted K xs

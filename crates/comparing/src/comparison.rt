@@ -1,5 +1,5 @@
 // What comparing two scores answers.
-use normal::onsets::PlacedNumbers;
+use normal::placed::PlacedNumbers;
 
 // One meaning; both lengths, which differ; or the least placed primitive whose counts differ, with both counts.
 #[derive(Clone, Copy)]

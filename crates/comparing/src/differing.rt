@@ -1,75 +1,52 @@
 // The least placed primitive whose counts differ in two lists.
-ghost use Rattle.std.specs.Prelude.{◌≡◌, ◌≤◌, length};
+ghost use Rattle.std.specs.Prelude.{◌≡◌};
 ghost use Rattle.algebra.specs.Bag.{count};
 ghost use Rattle.algebra.specs.Score.{same_placed};
-ghost use Rattle.normal.specs.Placing.{placed_of, all_placed, AllLegal};
+ghost use Rattle.normal.specs.Placing.{placed_of};
 ghost use Rattle.comparing.specs.Comparisons.{said, bag_answer, found, parting};
 
 use crate::comparison::Comparison;
-use crate::order::{order, same};
-use crate::sorting::sort_placed;
+use crate::order::order;
+use crate::sorted::SortedList;
 use kinds::kind::Kind;
-use normal::onsets::PlacedNumbers;
+use normal::placed::{PlacedList, PlacedNumbers};
 use std::cmp::Ordering;
 
 // How often a placed primitive occurs in a list.
-fn count_of(list: &[PlacedNumbers], sought: PlacedNumbers) -> u32
-    requires { length list.now ≤ 170 }
-    ensures { result ≡ count same_placed (placed_of sought) (all_placed list.now) }
+fn count_of<K: Kind>(list: &SortedList<K>, sought: PlacedNumbers) -> u32
+    ensures { result ≡ count same_placed (placed_of sought) list.now }
 {
-    let mut times = 0;
-    for item in list {
-        if same(sought, *item) {
-            times += 1;
-        }
-    }
-    times
+    list.items().iter().filter(|item| sought == **item).count() as u32
 }
 
 // Where two lists first part, the lesser of what stands there.
-fn first_parting<K: Kind>(
-    first: &[PlacedNumbers],
-    second: &[PlacedNumbers],
-) -> Option<PlacedNumbers>
-    requires first_legal { AllLegal K.Kind.model first.now }
-    requires second_legal { AllLegal K.Kind.model second.now }
-    ensures { found result ≡ parting K.Kind.model (all_placed first.now) (all_placed second.now) }
+fn first_parting<K: Kind>(first: &SortedList<K>, second: &SortedList<K>) -> Option<PlacedNumbers>
+    ensures { found result ≡ parting K.Kind.model first.now second.now }
 {
-    let mut at = 0;
-    while at < first.len() && at < second.len() {
-        match order::<K>(first[at], second[at]) {
-            Ordering::Less => return Some(first[at]),
-            Ordering::Equal => at += 1,
-            Ordering::Greater => return Some(second[at]),
+    let left = first.items();
+    let right = second.items();
+    for (x, y) in left.iter().zip(right) {
+        match order::<K>(*x, *y) {
+            Ordering::Less => return Some(*x),
+            Ordering::Equal => {}
+            Ordering::Greater => return Some(*y),
         }
     }
-    if at < first.len() {
-        Some(first[at])
-    } else if at < second.len() {
-        Some(second[at])
-    } else {
-        None
-    }
+    let shared = left.len().min(right.len());
+    left.get(shared).or(right.get(shared)).copied()
 }
 
-// What comparing answers for the placed primitives of two scores of one length. Puts both lists in order.
-pub fn compare_bags<K: Kind>(
-    first: &mut [PlacedNumbers],
-    second: &mut [PlacedNumbers],
-) -> Comparison
-    requires first_few { length first.old ≤ 170 }
-    requires second_few { length second.old ≤ 170 }
-    requires first_legal { AllLegal K.Kind.model first.old }
-    requires second_legal { AllLegal K.Kind.model second.old }
-    ensures { result ≡ said (bag_answer K.Kind.model (all_placed first.old) (all_placed second.old)) }
+// What comparing answers for the placed primitives of two scores of one length.
+pub fn compare_bags<K: Kind>(first: &PlacedList<K>, second: &PlacedList<K>) -> Comparison
+    ensures { result ≡ said (bag_answer K.Kind.model first.now second.now) }
 {
-    sort_placed::<K>(first);
-    sort_placed::<K>(second);
-    match first_parting::<K>(first, second) {
+    let first = SortedList::of(first);
+    let second = SortedList::of(second);
+    match first_parting(&first, &second) {
         Some(placed) => Comparison::Differs {
             placed,
-            first: count_of(first, placed),
-            second: count_of(second, placed),
+            first: count_of(&first, placed),
+            second: count_of(&second, placed),
         },
         None => Comparison::Same,
     }

@@ -1,9 +1,8 @@
-// Comparing two scores that stand in rows of nodes.
+// Comparing two scores.
 #![tactic(auto)]
 
 pub mod compare;
 pub mod comparison;
 mod differing;
 pub mod order;
-mod ranked;
-pub mod sorting;
+pub mod sorted;

@@ -1,14 +1,13 @@
-// The order of placed primitives, and their sameness.
+// The order of placed primitives.
 ghost use Rattle.std.specs.Prelude.{◌≡◌};
 ghost use Rattle.algebra.specs.Compare.{compare_placed};
 ghost use Rattle.algebra.specs.Kind.{LegalNumbers};
-ghost use Rattle.algebra.specs.Score.{same_placed};
 ghost use Rattle.normal.specs.Placing.{placed_of};
 ghost use Rattle.comparing.specs.Order.{any_numbers, any_order};
 
 use algebra::numbers::Numbers;
 use kinds::kind::Kind;
-use normal::onsets::PlacedNumbers;
+use normal::placed::PlacedNumbers;
 use std::cmp::Ordering;
 
 // The kind's comparing; numbers that no primitive has come last.
@@ -32,15 +31,4 @@ pub fn order<K: Kind>(first: PlacedNumbers, second: PlacedNumbers) -> Ordering
         .onset
         .cmp(&second.onset)
         .then(order_numbers::<K>(first.numbers, second.numbers))
-}
-
-// Whether two placed primitives are the same.
-pub fn same(first: PlacedNumbers, second: PlacedNumbers) -> bool
-    ensures { result ≡ same_placed (placed_of first) (placed_of second) }
-{
-    first.onset == second.onset
-        && first.numbers.first == second.numbers.first
-        && first.numbers.second == second.numbers.second
-        && first.numbers.third == second.numbers.third
-        && first.numbers.fourth == second.numbers.fourth
 }

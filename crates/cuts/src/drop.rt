@@ -12,7 +12,7 @@ use nodes::list::NodeList;
 use nodes::score::{Look, Score};
 
 // Puts what follows the first ticks of a score behind the nodes of a list.
-pub fn drop_into<K: Kind>(score: &Score<'_, K>, ticks: u32, out: &mut NodeList<K>)
+pub fn drop_into<K: Kind>(score: &Score<'_, K>, ticks: u32, out: &mut NodeList<'_, K>)
     requires { length out.old + nodes (dropped K.Kind.model ticks score.now) ≤ 1023 }
     ensures { out.new ≡ out.old ++ preorder (dropped K.Kind.model ticks score.now) }
 {

@@ -12,7 +12,7 @@ use nodes::list::NodeList;
 use nodes::score::{Look, Score};
 
 // Puts what comes before a part beside one of another length behind the nodes of a list.
-fn pad_into<K: Kind>(own: u32, other: u32, out: &mut NodeList<K>)
+fn pad_into<K: Kind>(own: u32, other: u32, out: &mut NodeList<'_, K>)
     requires { length out.old + length (padding other own) ≤ 1023 }
     ensures { out.new ≡ out.old ++ padding other own }
 {
@@ -23,7 +23,7 @@ fn pad_into<K: Kind>(own: u32, other: u32, out: &mut NodeList<K>)
 }
 
 // Puts the reverse of a score behind the nodes of a list.
-pub fn reverse_into<K: Kind>(score: &Score<'_, K>, out: &mut NodeList<K>)
+pub fn reverse_into<K: Kind>(score: &Score<'_, K>, out: &mut NodeList<'_, K>)
     requires { length out.old + nodes (reversed K.Kind.model score.now) ≤ 1023 }
     ensures { out.new ≡ out.old ++ preorder (reversed K.Kind.model score.now) }
 {

@@ -12,7 +12,7 @@ use nodes::list::NodeList;
 use nodes::score::{Look, Score};
 
 // Puts the first ticks of a score behind the nodes of a list.
-pub fn take_into<K: Kind>(score: &Score<'_, K>, ticks: u32, out: &mut NodeList<K>)
+pub fn take_into<K: Kind>(score: &Score<'_, K>, ticks: u32, out: &mut NodeList<'_, K>)
     requires { length out.old + nodes (taken K.Kind.model ticks score.now) ≤ 1023 }
     ensures { out.new ≡ out.old ++ preorder (taken K.Kind.model ticks score.now) }
 {

@@ -1,22 +1,18 @@
 -- How many bytes a file has at most.
-use Rattle.std.proofs.Common.{◌≡◌, ℕ, ◌+◌, ◌*◌, ◌^◌, ◌<◌, ◌≤◌, List, [], ◌∷◌, ◌++◌, length, codes, decimal, arith}
+use Rattle.std.proofs.Common.{◌≡◌, ℕ, ◌+◌, ◌*◌, ◌^◌, ◌<◌, ◌≤◌, List, [], ◌∷◌, ◌++◌, length, decimal, arith}
+use Rattle.std.proofs.lemmas.Grind.{common_steps}
 use Rattle.std.proofs.lemmas.Fmt.{length-decimal-le}
 use Rattle.std.proofs.lemmas.List.{length-append}
 use Rattle.algebra.specs.declared.numbers.Numbers.{Numbers}
 use Rattle.algebra.specs.Kind.{Words}
 use Rattle.algebra.specs.Score.{Score, Score.rest, Score.primitive, Score.sequence, Score.parallel, nodes, primitives}
-use Rattle.grammar.specs.Files.{field, fields, print, Grammatical, File, line, signature, print_head, ending, print_file}
+use Rattle.grammar.specs.Files.{field, fields, print, Grammatical, File, line, print_head, print_file}
 
 pub length_field : (n : ℕ) → length (field n) ≡ length (decimal n) + 1
 length_field n = length-append (decimal n) (44 ∷ [])
 
 pub length_fields : (p : Numbers) → length (fields p) ≡ 3 + length (decimal p.first) + length (decimal p.second) + length (decimal p.third) + length (decimal p.fourth)
-length_fields p =
-    let a = field p.first in
-    let b = field p.second in
-    let c = field p.third in
-    let d = decimal p.fourth in
-    omega (arith, length-append a (b ++ (c ++ d)), length-append b (c ++ d), length-append c d, length_field p.first, length_field p.second, length_field p.third)
+length_fields p = grind (arith, common_steps)
 
 length_word : (n : ℕ) → n ≤ 4294967295 → length (decimal n) ≤ 10
 length_word n h = length-decimal-le 10 n (omega arith) (omega arith) (omega arith)
@@ -51,24 +47,10 @@ length_line key w = omega (arith, length-append key (w ++ (10 ∷ [])), length-a
 
 -- the head has 29 bytes beside the name and the numbers
 pub length_head : (kind : List ℕ) (ticks count : ℕ) → length (print_head kind ticks count) ≡ 29 + length kind + length (decimal ticks) + length (decimal count)
-length_head kind ticks count =
-    let k = line (codes "kind=") kind in
-    let l = line (codes "length=") (decimal ticks) in
-    let p = line (codes "prims=") (decimal count) in
-    omega (
-      arith,
-      length-append signature (k ++ (l ++ p)),
-      length-append k (l ++ p),
-      length-append l p,
-      length_line (codes "kind=") kind,
-      length_line (codes "length=") (decimal ticks),
-      length_line (codes "prims=") (decimal count),
-    )
+length_head kind ticks count = grind (arith, common_steps)
 
 pub length_printed : (f : File) → length (print_file f) ≡ length (print_head f.kind f.ticks f.count) + 16 + length (print f.body)
-length_printed f =
-    let head = print_head f.kind f.ticks f.count in
-    omega (arith, length-append head (codes "body=" ++ (print f.body ++ ending)), length-append (codes "body=") (print f.body ++ ending), length-append (print f.body) ending)
+length_printed f = grind (arith, common_steps)
 
 -- a file within the limits has at most 16,384 bytes
 pub length_file : (f : File) → length f.kind ≤ 8 → f.ticks < 10 ^ 8 → f.count ≤ 170 → Narrow f.body → nodes f.body ≤ 1023 → primitives f.body ≤ 170 → length (print_file f) ≤ 16384

@@ -1,14 +1,9 @@
--- What a draft holds.
-use Rattle.std.specs.Prelude.{ℕ, List, take, slice_index_or, slice_set}
+-- What is done with the items of a draft.
+use Rattle.std.specs.Prelude.{ℕ, List, slice_index_or, slice_set}
 use Rattle.algebra.specs.declared.numbers.Numbers.{Numbers}
 use Rattle.algebra.specs.declared.node.Node.{Node}
-use Rattle.grammar.specs.declared.draft.Draft.{Draft}
 use Rattle.grammar.specs.declared.item.Item.{Item}
 use Rattle.grammar.specs.Items.{item}
-
--- its items, in their order
-abbrev pub drafted : Draft → List Item
-drafted d = take d.count d.items
 
 -- the items with another node at one of them; past the end they stay as they are
 abbrev pub with_node : List Item → ℕ → Node Numbers → List Item

@@ -1,4 +1,7 @@
-// The fixed texts of a score file, which the reader compares and the writer writes.
+// The fixed texts of a score file, which the reader compares and the writer writes, and how long a file may be.
+
+// The most bytes that a file may have.
+pub const MOST_BYTES: usize = 16_384;
 
 // The first line.
 pub const SIGNATURE: &[u8] = b"score=6\n";

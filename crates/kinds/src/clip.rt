@@ -1,7 +1,6 @@
 // Clips: parts of recordings.
 ghost use Rattle.std.specs.Prelude.{◌≡◌, true};
-ghost use Rattle.std.specs.declared.cmp.Ordering.TheVariants.{Equal};
-ghost use Rattle.algebra.specs.Kind.{four, smaller_first};
+ghost use Rattle.algebra.specs.Kind.{four};
 ghost use Rattle.kinds.specs.Clip.{clip as clip_model};
 ghost use Rattle.kinds.specs.Clips.{clip_laws};
 
@@ -10,24 +9,14 @@ use algebra::numbers::Numbers;
 use std::cmp::Ordering;
 
 // A part of a recording: its source, where it begins there, its length, and its way, 0 forward or 1 backward.
-#[derive(Clone, Copy)]
+// Clips are in the order of these numbers.
+#[derive(Clone, Copy, PartialEq, Eq, PartialOrd, Ord)]
 pub struct Clip {
     source: u32,
     offset: u32,
     length: u32,
     way: u32,
     ghost ok: { clip_model.legal (four source offset length way) ≡ true },
-}
-
-impl Clip {
-    // The order of clips that begin at one place of one source: the smaller length comes first, then the smaller way.
-    fn compare_ends(&self, other: &Clip) -> Ordering
-        ensures { result ≡ smaller_first self.now.length other.now.length (smaller_first self.now.way other.now.way Equal) }
-    {
-        self.length
-            .cmp(&other.length)
-            .then(self.way.cmp(&other.way))
-    }
 }
 
 impl Kind for Clip {
@@ -79,10 +68,7 @@ impl Kind for Clip {
 
     // The smaller source comes first, then the smaller offset, length and way.
     fn compare(&self, other: &Clip) -> Ordering {
-        self.source
-            .cmp(&other.source)
-            .then(self.offset.cmp(&other.offset))
-            .then(self.compare_ends(other))
+        self.cmp(other)
     }
 
     fn length(&self) -> u32 {

@@ -65,11 +65,8 @@ impl Kind for Note {
 
     // A higher pitch comes first, then a greater velocity, then a shorter length.
     fn compare(&self, other: &Note) -> Ordering {
-        other
-            .pitch
-            .cmp(&self.pitch)
-            .then(other.velocity.cmp(&self.velocity))
-            .then(self.length.cmp(&other.length))
+        let first = (other.pitch, other.velocity, self.length);
+        first.cmp(&(self.pitch, self.velocity, other.length))
     }
 
     fn length(&self) -> u32 {

@@ -1,6 +1,7 @@
 -- The items of a term: its nodes, its primitives, where it begins, and how far it has to be looked at.
 use Rattle.std.proofs.Common.{◌≡◌, ℕ, zero, suc, ◌+◌, ◌-◌, cond, ◌&&◌, ◌||◌, eqb, List, [], ◌∷◌, ◌++◌, length, get_or, take, Some, Option, sym, refl, ap, ◌∙◌, arith}
 use Rattle.std.proofs.lemmas.List.{map-append, append-nil}
+use Rattle.std.proofs.lemmas.List.Sums.{sum_by-cons, sum_by-append}
 use Rattle.algebra.specs.declared.numbers.Numbers.{Numbers}
 use Rattle.algebra.specs.declared.node.Node.{Node}
 use Rattle.algebra.specs.declared.node.Node.TheVariants.{Sequence, Parallel}
@@ -8,7 +9,7 @@ use Rattle.algebra.specs.Score.{Score, Score.rest, Score.primitive, Score.sequen
 use Rattle.algebra.specs.Layout.{preorder, stack, foremost, score_of}
 use Rattle.grammar.specs.declared.item.Item.{Item}
 use Rattle.grammar.specs.Files.{print}
-use Rattle.grammar.specs.Items.{items, nodes_of}
+use Rattle.grammar.specs.Items.{item, items, nodes_of}
 use Rattle.grammar.specs.Loads.{holds_primitive, excess}
 use Rattle.nodes.specs.Held.{Whole}
 use Rattle.nodes.proofs.Parts.{stack_preorder}
@@ -24,19 +25,20 @@ nodes_items at (parallel a b) =
     let from = at + 1 + length (print a) + 1 in
     ap (λ xs. Parallel ∷ xs) (map-append (λ (i : Item). i.node) (items (at + 1) a) (items from b) ∙ (λ i. nodes_items (at + 1) a i ++ nodes_items from b i))
 
-primitives_append : (is js : List Item) → primitive_items (is ++ js) ≡ primitive_items is + primitive_items js
-primitives_append [] js = omega arith
-primitives_append (i ∷ is) js = omega (arith, primitives_append is js)
+abbrev counts : Item → ℕ
+counts i = cond (holds_primitive i.node) 1 0
 
 pub primitives_items : (at : ℕ) (s : Score) → primitive_items (items at s) ≡ primitives s
 primitives_items at (rest d) = refl
 primitives_items at (primitive p) = refl
 primitives_items at (sequence a b) =
-    let from = at + 1 + length (print a) + 1 in
-    omega (arith, primitives_append (items (at + 1) a) (items from b), primitives_items (at + 1) a, primitives_items from b)
+    let left = items (at + 1) a in
+    let right = items (at + 1 + length (print a) + 1) b in
+    omega (arith, sum_by-cons counts (item Sequence at) (left ++ right), sum_by-append counts left right, primitives_items (at + 1) a, primitives_items (at + 1 + length (print a) + 1) b)
 primitives_items at (parallel a b) =
-    let from = at + 1 + length (print a) + 1 in
-    omega (arith, primitives_append (items (at + 1) a) (items from b), primitives_items (at + 1) a, primitives_items from b)
+    let left = items (at + 1) a in
+    let right = items (at + 1 + length (print a) + 1) b in
+    omega (arith, sum_by-cons counts (item Parallel at) (left ++ right), sum_by-append counts left right, primitives_items (at + 1) a, primitives_items (at + 1 + length (print a) + 1) b)
 
 pub first_offset : (at : ℕ) (s : Score) (d : Item) → (get_or (items at s) 0 d).offset ≡ at
 first_offset at (rest t) d = refl

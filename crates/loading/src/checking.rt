@@ -6,13 +6,11 @@ ghost use Rattle.loading.specs.Checks.{Checks};
 use crate::counting::count_primitives;
 use crate::legality::check_legal;
 use crate::measuring::measure;
+use algebra::limits::LONGEST;
 use grammar::head::Head;
 use grammar::item::Item;
 use kinds::kind::Kind;
 use refusals::refusal::Refusal;
-
-// How long a score may be.
-const LENGTH: u32 = 16_777_215;
 
 // How many nodes an accepted score has, and how many primitives.
 #[derive(Clone, Copy)]
@@ -30,7 +28,7 @@ pub fn check<K: Kind>(head: Head, items: &[Item]) -> Result<Loaded, Refusal>
     let primitives = count_primitives(items)?;
     check_legal::<K>(items)?;
     let length = measure::<K>(items);
-    if length > LENGTH {
+    if length > LONGEST {
         return Err(Refusal::TooLongInFile(items[0].offset));
     }
     if head.ticks.value != length {

@@ -2,44 +2,48 @@
 ghost use Rattle.std.specs.Prelude.{◌≡◌, MatchResult};
 ghost use Rattle.grammar.specs.Loads.{holds_primitive, excess};
 ghost use Rattle.refusals.specs.declared.refusal.Refusal.TheVariants.{TooManyInFile};
-ghost use Rattle.loading.specs.Counts.{Counted};
+ghost use Rattle.loading.specs.Counts.{primitive_items, Counted};
 ghost use Rattle.loading.specs.Offsets.{RefusedAt};
 
+use algebra::limits::{MOST_NODES, MOST_PRIMITIVES};
 use algebra::node::Node;
-use algebra::numbers::Numbers;
 use grammar::item::Item;
 use refusals::refusal::Refusal;
 
-// How many nodes and how many primitives a score may have.
-const NODES: usize = 1023;
-
-const PRIMITIVES: u32 = 170;
-
-// Whether a node is a primitive.
-fn is_primitive(node: Node<Numbers>) -> bool
-    ensures { result ≡ holds_primitive node }
+// Whether an item is a primitive.
+fn is_primitive(item: &Item) -> bool
+    ensures { result ≡ holds_primitive item.now.node }
 {
-    match node {
-        Node::Primitive(_) => true,
-        Node::Rest(_) | Node::Sequence | Node::Parallel => false,
-    }
+    matches!(item.node, Node::Primitive(_))
+}
+
+// How many primitives there are.
+fn primitives(items: &[Item]) -> usize
+    ensures { result ≡ primitive_items items.now }
+{
+    items.iter().filter(|item| is_primitive(item)).count()
+}
+
+// Where the first node stands for which there is no room: a node or a primitive that is one too many.
+fn first_excess(items: &[Item]) -> Option<u32>
+    ensures { result ≡ excess 1023 170 items.now }
+{
+    let primitive = items
+        .iter()
+        .take(MOST_NODES)
+        .filter(|item| is_primitive(item))
+        .map(|item| item.offset)
+        .nth(MOST_PRIMITIVES);
+    let node = items.iter().map(|item| item.offset).nth(MOST_NODES);
+    primitive.or(node)
 }
 
 // Counts the primitives, and refuses the first node or primitive that is one too many.
 pub fn count_primitives(items: &[Item]) -> Result<u32, Refusal>
     ensures { MatchResult result (Counted items.now) (RefusedAt (excess 1023 170 items.now) TooManyInFile) }
 {
-    let mut count = 0;
-    for (at, item) in items.iter().enumerate() {
-        if at == NODES {
-            return Err(Refusal::TooManyInFile(item.offset));
-        }
-        if is_primitive(item.node) {
-            if count == PRIMITIVES {
-                return Err(Refusal::TooManyInFile(item.offset));
-            }
-            count += 1;
-        }
+    match first_excess(items) {
+        Some(offset) => Err(Refusal::TooManyInFile(offset)),
+        None => Ok(primitives(items) as u32),
     }
-    Ok(count)
 }

@@ -32,14 +32,22 @@ pub fn legal_node_of<K: Kind>(node: Node<Numbers>) -> Node<K>
     node_of::<K>(node).unwrap()
 }
 
+// Where the first primitive stands whose numbers the kind refuses.
+fn first_illegal<K: Kind>(items: &[Item]) -> Option<u32>
+    ensures { result ≡ illegal K.Kind.model items.now }
+{
+    items
+        .iter()
+        .find(|item| node_of::<K>(item.node).is_none())
+        .map(|item| item.offset)
+}
+
 // Refuses the first primitive whose numbers the kind refuses.
 pub fn check_legal<K: Kind>(items: &[Item]) -> Result<(), Refusal>
     ensures { MatchResult result (λ _. illegal K.Kind.model items.now ≡ None) (RefusedAt (illegal K.Kind.model items.now) IllegalNumbers) }
 {
-    for item in items {
-        if node_of::<K>(item.node).is_none() {
-            return Err(Refusal::IllegalNumbers(item.offset));
-        }
+    match first_illegal::<K>(items) {
+        Some(offset) => Err(Refusal::IllegalNumbers(offset)),
+        None => Ok(()),
     }
-    Ok(())
 }

@@ -23,8 +23,8 @@ pub fn measure<K: Kind>(items: &[Item]) -> u32
         nodes: 0,
         length: 0,
     }; 1023];
-    for at in (0..items.len()).rev() {
-        let node = legal_node_of::<K>(items[at].node);
+    for (at, item) in items.iter().enumerate().rev() {
+        let node = legal_node_of::<K>(item.node);
         let span = Span::at(node, &spans, at);
         spans[at] = span;
     }

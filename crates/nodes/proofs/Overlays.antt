@@ -1,7 +1,7 @@
 -- Writes in a row, one after the other, and what they leave. Assumes nothing.
-use Rattle.std.proofs.Common.{◌≡◌, ℕ, suc, ◌+◌, ◌-◌, ◌<◌, ◌≤◌, List, [], ◌∷◌, ◌++◌, length, take, drop, set, sym, refl, ap, ◌∙◌, arith}
+use Rattle.std.proofs.Common.{◌≡◌, ℕ, suc, ◌+◌, ◌-◌, ◌<◌, ◌≤◌, List, [], ◌∷◌, ◌++◌, map, length, take, drop, set, sym, refl, ap, ◌∙◌, arith}
 use lib.Seq.{paste}
-use Rattle.std.proofs.lemmas.List.{append_assoc, length-append, length-take-le, length-drop, drop-take, take-take, take_at, drop_at, drop-drop, set_split, length-set, take-append-drop}
+use Rattle.std.proofs.lemmas.List.{append_assoc, map-append, length-map, take-map, drop-map, length-append, length-take-le, length-drop, drop-take, take-take, take_at, drop_at, drop-drop, set_split, length-set, take-append-drop}
 use Rattle.nodes.specs.Rows.{overlaid}
 
 module _ {X : Type 0} where
@@ -69,3 +69,15 @@ module _ {X : Type 0} where
   overlaid_paste xs at s n h =
       let long : n ≡ length (take n s) = sym (length-take-le n s h) in
       append_assoc (take at xs) (take n s) (drop (at + n) xs) ∙ ap (λ k. take at xs ++ (take n s ++ drop (at + k) xs)) long
+
+-- the same of what stands there in other terms
+pub overlaid-map : {X Y : Type 0} (f : X → Y) (xs : List X) (at : ℕ) (ys : List X) → map f (overlaid xs at ys) ≡ overlaid (map f xs) at (map f ys)
+overlaid-map f xs at ys =
+    map-append f (take at xs) (ys ++ drop (at + length ys) xs) ∙ ap (λ l. l ++ map f (ys ++ drop (at + length ys) xs)) (sym (take-map f at xs))
+    ∙ ap (λ l. take at (map f xs) ++ l) (map-append f ys (drop (at + length ys) xs) ∙ (λ i. map f ys ++ (sym (drop-map f (at + length ys) xs) ∙ ap (λ n. drop (at + n) (map f xs)) (sym (length-map ys f))) i))
+
+-- the front of a row, as far as what is written over it
+pub overlaid_front : {X : Type 0} (xs : List X) (at : ℕ) (ys : List X) → at ≤ length xs → take (at + length ys) (overlaid xs at ys) ≡ take at xs ++ ys
+overlaid_front xs at ys h =
+    ap (take (at + length ys)) (sym (append_assoc (take at xs) ys (drop (at + length ys) xs)))
+    ∙ take_at (take at xs ++ ys) (drop (at + length ys) xs) (at + length ys) (length-append (take at xs) ys ∙ ap (λ n. n + length ys) (length-take-le at xs h))

@@ -70,6 +70,10 @@ held_from xs n m o =
 pub score_preorder : (s : Score) → score_of (preorder s) ≡ s
 score_preorder s = ap (λ xs. foremost (stack xs)) (sym (append-nil (preorder s))) ∙ ap foremost (stack_preorder s [])
 
+-- nodes are those of one score
+pub same_score : {s t : Score} → preorder s ≡ preorder t → s ≡ t
+same_score {s = s} {t = t} e = sym (score_preorder s) ∙ ap score_of e ∙ score_preorder t
+
 pub tested_score : (s : Score) → nodes s ≤ 1023 → primitives s ≤ 170 → bare s ≤ 16777215 → Tested (preorder s) (nodes s) (primitives s)
 tested_score s small few short =
     let is = score_preorder s in

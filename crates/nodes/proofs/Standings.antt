@@ -6,6 +6,7 @@ use Rattle.algebra.specs.declared.node.Node.{Node}
 use Rattle.algebra.specs.Kind.{KindModel, LengthLaws}
 use Rattle.algebra.specs.Score.{Score, Score.sequence, Score.parallel, Legal, nodes, score_length}
 use Rattle.algebra.specs.Layout.{seen, view, preorder, score_at, score_of}
+use Rattle.algebra.specs.Limits.{Fits}
 use Rattle.nodes.specs.declared.span.Span.{Span}
 use Rattle.nodes.specs.declared.join.Join.{Join}
 use Rattle.nodes.specs.declared.join.Join.TheVariants as joins
@@ -45,6 +46,15 @@ held_stands K laws f ok row held =
         few = held.few;
         short = length_held K laws f ok row held;
       };
+    }
+
+-- and so does a score that a place has room for
+pub fitting_stands : (K : KindModel) (laws : LengthLaws K) {P : Type 0} (f : P → Numbers) → ((x : P) → K.legal (f x) ≡ true) → (row : List (Node P)) (s : Score) → view f row ≡ preorder s → Fits K s → Stands K f row
+fitting_stands K laws f ok row s e h =
+    let is : score_of (view f row) ≡ s = ap score_of e ∙ score_preorder s in
+    record {
+      whole = e ∙ ap preorder (sym is);
+      limited = subst (Limited K) (sym is) (record { legal = subst (Legal K) is (legal_row K laws f ok row); small = h.few_nodes; few = h.few_primitives; short = omega (arith, h.short) });
     }
 
 -- as many nodes as the row has

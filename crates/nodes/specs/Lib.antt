@@ -7,3 +7,4 @@ pub mod Joins
 pub mod Codes
 pub mod Standing
 pub mod Scores
+pub mod Lists

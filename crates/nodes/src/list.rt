@@ -3,43 +3,45 @@ ghost use Rattle.std.specs.Prelude.{◌≡◌, ◌+◌, ◌<◌, ◌≤◌, [], 
 ghost use Rattle.algebra.specs.Layout.{view, seen, preorder};
 ghost use Rattle.algebra.specs.Score.{nodes};
 
+use crate::rows::write_over;
 use crate::score::Score;
 use algebra::node::Node;
-use arrayvec::ArrayVec;
 use kinds::kind::Kind;
 use std::marker::Model;
 
-// Nodes in their order, 1,023 at most.
+// Nodes in their order, 1,023 at most, in room that the caller lends. A kind may be so large that no list by value could
+// be had: only a rack's own nodes tell that an array of 1,023 can.
 #[derive(Drop)]
-pub struct NodeList<K: Kind> {
-    nodes: ArrayVec<Node<K>, 1023>,
+pub struct NodeList<'a, K: Kind> {
+    room: &'a mut [Node<K>],
+    len: usize,
 }
 
-impl<K: Kind> Model for NodeList<K> {
-    ghost use Rattle.std.specs.Prelude.{◌≤◌, List, length};
+impl<'a, K: Kind> Model for NodeList<'a, K> {
+    ghost use Rattle.std.specs.Prelude.{List};
+    ghost use Rattle.std.specs.Coded.{coded_list};
     ghost use Rattle.algebra.specs.declared.numbers.Numbers.{Numbers};
     ghost use Rattle.algebra.specs.declared.node.Node.{Node};
-    ghost use Rattle.algebra.specs.Layout.{view as viewed};
     ghost use Rattle.nodes.specs.Codes.{node_code};
-    ghost use Rattle.std.specs.Coded.{coded_list};
 
     ghost Value = { List (Node Numbers) };
 
     ghost coded = { coded_list node_code };
 
-    ghost view = { λ l. viewed K.Kind.numbers_of l.nodes.items };
+    ghost use Rattle.nodes.specs.Lists.{listed, Roomy};
 
-    ghost invariant = { λ l. length l.nodes.items ≤ 1023 };
+    ghost view = { λ l. listed K.Kind.numbers_of l.room.now l.len };
+
+    ghost invariant = { λ l. Roomy l.room.now l.len };
 }
 
-impl<K: Kind> NodeList<K> {
-    // A list with nothing in it.
-    pub fn new() -> NodeList<K>
+impl<'a, K: Kind> NodeList<'a, K> {
+    // A list with nothing in it, in room for 1,023 nodes.
+    pub fn over(room: &'a mut [Node<K>]) -> NodeList<'a, K>
+        requires { length room.old ≡ 1023 }
         ensures { result ≡ [] }
     {
-        NodeList {
-            nodes: ArrayVec::new(),
-        }
+        NodeList { room, len: 0 }
     }
 
     // The nodes.
@@ -47,7 +49,7 @@ impl<K: Kind> NodeList<K> {
         ensures nodes { view K.Kind.numbers_of result.now ≡ self.now }
         ensures fits { length result.now ≤ 1023 }
     {
-        self.nodes.as_slice()
+        &self.room[..self.len]
     }
 
     // Puts a node behind the others.
@@ -55,7 +57,8 @@ impl<K: Kind> NodeList<K> {
         requires { length self.old < 1023 }
         ensures { self.new ≡ self.old ++ (seen K.Kind.numbers_of node ∷ []) }
     {
-        self.nodes.push(node);
+        self.room[self.len] = node;
+        self.len += 1;
     }
 
     // Puts nodes behind the others.
@@ -63,7 +66,8 @@ impl<K: Kind> NodeList<K> {
         requires { length self.old + length nodes.now ≤ 1023 }
         ensures { self.new ≡ self.old ++ view K.Kind.numbers_of nodes.now }
     {
-        self.nodes.try_extend_from_slice(nodes).unwrap();
+        write_over(self.room, self.len, nodes);
+        self.len += nodes.len();
     }
 
     // Puts the nodes of a score behind the others.

@@ -1,7 +1,7 @@
 // Held scores, measured.
 ghost use Rattle.std.specs.Prelude.{◌≡◌};
 ghost use Rattle.algebra.specs.Layout.{view, score_of};
-ghost use Rattle.nodes.specs.Standing.{Stands};
+ghost use Rattle.nodes.specs.Standing.{Stands, Limited};
 
 use crate::score::Score;
 use crate::span::Span;
@@ -46,7 +46,8 @@ impl<'a, K: Kind> Measured<'a, K> {
 
     // The score.
     pub fn score(&self) -> Score<'_, K>
-        ensures { result ≡ self.now }
+        ensures same { result ≡ self.now }
+        ensures limited { Limited K.Kind.model self.now }
     {
         Score {
             nodes: self.nodes,

@@ -6,7 +6,7 @@ ghost use Rattle.nodes.specs.Scores.{Shows, Parts};
 ghost use Rattle.nodes.specs.Standing.{Limited};
 
 use crate::join::Join;
-use crate::some::some_of;
+use crate::rows::some_of;
 use crate::span::Span;
 use algebra::node::Node;
 use kinds::kind::Kind;

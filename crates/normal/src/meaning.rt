@@ -1,6 +1,7 @@
 // What a score means: a length, and placed primitives.
 ghost use Rattle.std.specs.Prelude.{◌≡◌, ◌+◌, ◌^◌, ◌<◌, ◌≤◌, ◌++◌, map, length};
 ghost use Rattle.algebra.specs.Score.{score_length, primitives, placed as placed_in, later};
+ghost use Rattle.nodes.specs.Standing.{Limited};
 
 use crate::placed::{PlacedList, PlacedNumbers};
 use algebra::limits::MOST_PRIMITIVES;
@@ -20,6 +21,7 @@ impl<K: Kind> Meaning<K> {
     pub fn of(score: &Score<'_, K>) -> Self
         ensures length { result.length ≡ score_length K.Kind.model score.now }
         ensures placed { result.placed ≡ placed_in K.Kind.model score.now }
+        ensures limited { Limited K.Kind.model score.now }
     {
         let length = score.length();
         let mut placed = PlacedList::new();

@@ -1,7 +1,8 @@
 -- How a tally of spent partners goes on.
-use Rattle.std.proofs.Common.{◌≡◌, ℕ, suc, ◌+◌, ◌<◌, ◌≤◌, min, Bool, true, false, cond, ◌≢◌, List, [], ◌∷◌, length, get_or, set, replicate, sym, refl, ap, ◌∙◌, subst, inl, inr, arith, le-ltb, lt-ltb}
-use Rattle.std.specs.List.{AllByRecursion}
+use Rattle.std.proofs.Common.{◌≡◌, ℕ, suc, ◌+◌, ◌<◌, ◌≤◌, min, Bool, true, false, cond, ◌≢◌, List, [], ◌∷◌, Some, length, get_or, set, replicate, sym, refl, ap, ◌∙◌, subst, inl, inr, arith, le-ltb, lt-ltb}
+use Rattle.std.specs.List.{AllByRecursion, slice_get}
 use Rattle.std.proofs.lemmas.Bool.{cases_lt}
+use Rattle.std.proofs.lemmas.Option.{slice_get_within}
 use Rattle.std.proofs.lemmas.List.{get_or-set_same, get_or-set_other, get_or_past, get_or-replicate, length-replicate}
 use Rattle.algebra.specs.Bag.{count}
 use Rattle.algebra.specs.Kind.{KindModel, OrderLaws}
@@ -10,7 +11,7 @@ use Rattle.algebra.proofs.Compare.{LegalPlaced}
 use Rattle.algebra.proofs.Complete.{placed_equality}
 use Rattle.comparing.specs.Order.{Sorted}
 use Rattle.partners.specs.Runs.{start_of_run, Tally, Spent}
-use Rattle.partners.proofs.Starts.{Stands, at_start, at_start_only, starts_apart}
+use Rattle.partners.proofs.Starts.{at_start, starts_apart}
 
 none_yet : (n k : ℕ) → get_or {A = ℕ} (replicate n 0) k 0 ≡ 0
 none_yet n k = elim (cases_lt k n) [
@@ -34,12 +35,12 @@ module _ (K : KindModel) (order : OrderLaws K) (y : Placed) (ws : List Placed) (
 
   module _ (v : ℕ) (reads : v ≡ get_or spent start 0) where
     -- the next of the run is there, and is noted
-    module _ (there : Stands y ws (start + v)) where
+    module _ (there : slice_get ws (start + v) ≡ Some y) where
       left : v < count same_placed y ws
-      left = at_start_only K order y y_legal ws v legal sorted there
+      left = (at_start K order y y_legal ws v legal sorted).1 there
 
       inside : start < length spent
-      inside = omega (arith, (at_start K order y y_legal ws 0 legal sorted (omega (arith, left))).within)
+      inside = omega (arith, slice_get_within ws (start + 0) y ((at_start K order y y_legal ws 0 legal sorted).0 (omega (arith, left))))
 
       noted : (before : List Placed) → Tally K ws spent before → Tally K ws (set spent start (v + 1)) (y ∷ before)
       noted before t x p = go (same_placed x y) refl
@@ -53,16 +54,16 @@ module _ (K : KindModel) (order : OrderLaws K) (y : Placed) (ws : List Placed) (
               ap (λ k. get_or (set spent start (v + 1)) k 0) r ∙ get_or-set_same spent start (v + 1) 0 inside ∙ omega (arith, t x p, left)
           go false e = get_or-set_other spent start (start_of_run K x ws) (v + 1) 0 (apart x p (omega (arith, left)) e) ∙ t x p
 
-      pub one_spent : Spent K ws spent (set spent start (v + 1)) y true
+      pub one_spent : Spent K ws spent ws (set spent start (v + 1)) y true
       one_spent = record {
-        answer_is = λ before t. sym (lt-ltb (count same_placed y before) (count same_placed y ws) (omega (arith, left, t y (omega (arith, left)))));
-        after_is = noted;
+        answer_is = λ other before n. sym (lt-ltb (count same_placed y before) (count same_placed y other) (omega (arith, left, n.bag y, n.tally y (omega (arith, left)))));
+        after_is = λ other before n. record { bag = n.bag; tally = noted before n.tally };
       }
 
     -- no more of the run is left
-    module _ (none : Stands y ws (start + v) → ⊥) where
+    module _ (none : slice_get ws (start + v) ≡ Some y → ⊥) where
       most : count same_placed y ws ≤ v
-      most = elim (cases_lt v (count same_placed y ws)) [ inl l ↦ absurd (none (at_start K order y y_legal ws v legal sorted l)) | inr h ↦ h ]
+      most = elim (cases_lt v (count same_placed y ws)) [ inl l ↦ absurd (none ((at_start K order y y_legal ws v legal sorted).0 l)) | inr h ↦ h ]
 
       kept : (before : List Placed) → Tally K ws spent before → Tally K ws spent (y ∷ before)
       kept before t x p = go (same_placed x y) refl
@@ -75,8 +76,8 @@ module _ (K : KindModel) (order : OrderLaws K) (y : Placed) (ws : List Placed) (
               omega (arith, t x p, most)
           go false e = t x p
 
-      pub none_spent : Spent K ws spent spent y false
+      pub none_spent : Spent K ws spent ws spent y false
       none_spent = record {
-        answer_is = λ before t. sym (le-ltb (count same_placed y before) (count same_placed y ws) (elim (cases_lt 0 (count same_placed y ws)) [ inl l ↦ omega (arith, most, t y l) | inr h ↦ omega arith ]));
-        after_is = kept;
+        answer_is = λ other before n. sym (le-ltb (count same_placed y before) (count same_placed y other) (elim (cases_lt 0 (count same_placed y ws)) [ inl l ↦ omega (arith, most, n.bag y, n.tally y l) | inr h ↦ omega (arith, n.bag y) ]));
+        after_is = λ other before n. record { bag = n.bag; tally = kept before n.tally };
       }

@@ -1,32 +1,48 @@
-// Partners in a list in order, each spent once.
-ghost use Rattle.std.specs.Prelude.{◌≤◌, length};
+// Partners in a list, each spent once.
+ghost use Rattle.std.specs.Prelude.{[]};
 ghost use Rattle.algebra.specs.Kind.{LegalNumbers};
-ghost use Rattle.normal.specs.Placing.{placed_of, all_placed, AllLegal};
-ghost use Rattle.comparing.specs.Order.{Sorted};
-ghost use Rattle.partners.specs.Runs.{Spent};
+ghost use Rattle.normal.specs.Placing.{placed_of};
+ghost use Rattle.partners.specs.Runs.{Noted, Spent};
 
 use crate::runs::run_start;
-use comparing::order::same;
+use algebra::limits::MOST_PRIMITIVES;
+use comparing::sorted::SortedList;
 use kinds::kind::Kind;
-use normal::onsets::PlacedNumbers;
+use normal::placed::{PlacedList, PlacedNumbers};
 
-// Whether the next of a list has a partner in another, which is in order, and notes that partner as spent.
-pub fn spend<K: Kind>(sorted: &[PlacedNumbers], spent: &mut [u32], item: PlacedNumbers) -> bool
-    requires sorted { Sorted K.Kind.model (all_placed sorted.now) }
-    requires legal { AllLegal K.Kind.model sorted.now }
-    requires item_legal { LegalNumbers K.Kind.model item.numbers }
-    requires few { length sorted.now ≤ 170 }
-    requires room { length sorted.now ≤ length spent.old }
-    ensures { Spent K.Kind.model (all_placed sorted.now) spent.old spent.new (placed_of item) result }
-{
-    let start = run_start::<K>(sorted, item);
-    if start >= sorted.len() {
-        return false;
+// A list in order, and how many of each run there are spent, which is noted where the run begins.
+#[derive(Drop)]
+pub struct Partners<K: Kind> {
+    sorted: SortedList<K>,
+    spent: [u32; MOST_PRIMITIVES],
+}
+
+impl<K: Kind> Partners<K> {
+    // The partners that a list has, of which none is spent.
+    pub fn of(list: &PlacedList<K>) -> Self
+        ensures { Noted K.Kind.model list.now [] result.sorted result.spent }
+    {
+        Partners {
+            sorted: SortedList::of(list),
+            spent: [0; MOST_PRIMITIVES],
+        }
     }
-    let next = start + spent[start] as usize;
-    if next >= sorted.len() || !same(sorted[next], item) {
-        return false;
+
+    // Whether the next of some placed primitives has a partner, which is then spent.
+    pub fn spend(&mut self, item: PlacedNumbers) -> bool
+        requires { LegalNumbers K.Kind.model item.numbers }
+        ensures { Spent K.Kind.model self.old.sorted self.old.spent self.new.sorted self.new.spent (placed_of item) result }
+    {
+        let start = run_start(&self.sorted, item);
+        let sorted = self.sorted.items();
+        if start >= sorted.len() {
+            return false;
+        }
+        let next = start + self.spent[start] as usize;
+        if sorted.get(next) != Some(&item) {
+            return false;
+        }
+        self.spent[start] += 1;
+        true
     }
-    spent[start] += 1;
-    true
 }

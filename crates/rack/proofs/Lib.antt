@@ -1,9 +1,6 @@
 pub mod Shelves
 pub mod Placing
-pub mod Standing
 pub mod Loading
 pub mod Writing
 pub mod Joining
-pub mod Rewriting
-pub mod Comparing
-pub mod NormalFiles
+pub mod Room

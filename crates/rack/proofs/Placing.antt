@@ -1,155 +1,154 @@
 -- What a rack holds after a write into the segment of one of its places.
-use Rattle.std.proofs.Common.{◌≡◌, ℕ, ◌+◌, ◌*◌, ◌/◌, ◌<◌, ◌≤◌, min, true, cond, ◌||◌, eqb, ◌≢◌, ◌⊎◌, List, length, get_or, take, drop, set, Some, None, Option, sym, refl, ap, ◌∙◌, subst, inl, inr, ⊎_elim, arith}
-use Rattle.std.proofs.lemmas.Bool.{cases_eq, ne_eqb}
-use Rattle.std.proofs.lemmas.List.{same_lists, length-set, get_or-set_same, get_or-set_other}
+use Rattle.std.proofs.Common.{◌≡◌, ℕ, ◌+◌, ◌*◌, ◌/◌, ◌<◌, ◌≤◌, min, ◌≢◌, ◌⊎◌, List, length, get_or, take, drop, set, Some, None, Option, sym, refl, ap, ◌∙◌, subst, inl, inr, ⊎_elim, arith}
+use Rattle.std.proofs.lemmas.Bool.{cases_eq}
+use Rattle.std.proofs.lemmas.List.{same_lists, length-map, length-set, get_or-set_same, get_or-set_other}
 use Rattle.algebra.specs.declared.numbers.Numbers.{Numbers}
 use Rattle.algebra.specs.declared.node.Node.{Node}
 use Rattle.algebra.specs.Kind.{KindModel}
-use Rattle.algebra.specs.Score.{Score, nodes, primitives}
+use Rattle.algebra.specs.Score.{Score, nodes}
 use Rattle.algebra.specs.Limits.{Fits}
-use Rattle.algebra.specs.Layout.{preorder, view, score_of}
-use Rattle.nodes.specs.Held.{bare, held_row}
+use Rattle.algebra.specs.Layout.{seen, preorder, view, score_of}
 use Rattle.nodes.specs.Rows.{overlaid}
-use Rattle.nodes.proofs.Parts.{length_preorder, some_node}
-use Rattle.nodes.proofs.Lengths.{bare_at_most}
+use Rattle.nodes.proofs.Parts.{length_preorder}
 use Rattle.nodes.proofs.Overlays.{front_same, back_same, overlaid_before, overlaid_here, overlaid_after, overlaid_length}
-use Rattle.nodes.proofs.Shapes.{test_from, tested_score, score_preorder}
-use Rattle.rack.specs.declared.place.Place.{Place}
-use Rattle.rack.specs.declared.rack.Rack.{Rack}
+use Rattle.nodes.proofs.Shapes.{score_preorder}
+use Rattle.building.specs.declared.size.Size.{Size}
 use Rattle.building.specs.Sizes.{size_of}
-use Rattle.rack.specs.Places.{number, empty_place, place_of, place_at, sound, AllSound}
-use Rattle.rack.specs.Shelves.{held_at, shelf_of, shelf}
-use Rattle.rack.proofs.Shelves.{AllTested, segment_within, length_shelf, at_any, small_places, number_view, tested_view, sound_from}
+use Rattle.rack.specs.declared.place.Place.{Place}
+use Rattle.rack.specs.Places.{number, place_of, used, place_at, held_at, shelf, Counts, Noted, Sound}
+use Rattle.rack.proofs.Shelves.{segment_within, length_shelf, at_any}
 
--- xs' is xs but for the segment of one place, where the note is now `place`, which is true and says that it holds `o`
-record Placed (xs xs' : List (Node Numbers)) (to : ℕ) (place : Place) (o : Option Score) : Type 0 where
+-- the note of a score's size is true
+pub counts_of : (K : KindModel) (s : Score) (size : Size) (place : Place) → place ≡ place_of size → size ≡ size_of K s → Counts place s
+counts_of K s size place e d =
+    record { nodes_are = ap (λ (q : Place). q.nodes) e ∙ ap (λ (z : Size). z.nodes) d; primitives_are = ap (λ (q : Place). q.primitives) e ∙ ap (λ (z : Size). z.primitives) d }
+
+-- Nodes became others, but for the segment of a place as they were.
+pub record Kept (xs xs' : List (Node Numbers)) (to : ℕ) : Type 0 where
   pub as_long : length xs' ≡ length xs
   pub before : take (to * 1023) xs' ≡ take (to * 1023) xs
   pub beyond : drop (to * 1023 + 1023) xs' ≡ drop (to * 1023 + 1023) xs
-  pub here_sound : sound xs' place to ≡ true
-  pub here_held : held_at xs' place to ≡ o
 
-module _ (xs xs' : List (Node Numbers)) (places : List Place) (to : ℕ) (place : Place) (o : Option Score)
-    (eight : length places ≡ 8) (all : AllTested xs places) (there : to < number xs) (w : Placed xs xs' to place o) where
-  same_number : number xs' ≡ number xs
-  same_number = ap (λ n. min 8 (n / 1023)) w.as_long
+module _ {P : Type 0} (K : KindModel) (f : P → Numbers) (ns ns' : List (Node P)) (places : List (Option Place)) (sound : Sound K f ns places)
+    (to : ℕ) (there : to < number ns) (kept : Kept (view f ns) (view f ns') to) (o : Option Place) (now : (place : Place) → o ≡ Some place → Noted K f ns' to place) where
+  same_number : number ns' ≡ number ns
+  same_number = ap (λ n. min 8 (n / 1023)) (sym (length-map ns' (seen f)) ∙ kept.as_long ∙ length-map ns (seen f))
 
-  place_here : place_at (set places to place) to ≡ place
-  place_here = get_or-set_same places to place empty_place (omega (arith, eight, there))
+  place_here : place_at (set places to o) to ≡ o
+  place_here = get_or-set_same places to o None (omega (arith, sound.eight, there))
 
-  place_other : (p : ℕ) → p ≢ to → place_at (set places to place) p ≡ place_at places p
-  place_other p ne = get_or-set_other places to p place empty_place ne
+  place_other : (p : ℕ) → p ≢ to → place_at (set places to o) p ≡ place_at places p
+  place_other p ne = get_or-set_other places to p o None ne
 
-  used_other : (p n : ℕ) → n ≤ 1023 → p ≢ to → take n (drop (p * 1023) xs') ≡ take n (drop (p * 1023) xs)
+  used_other : (p n : ℕ) → n ≤ 1023 → p ≢ to → used (view f ns') p n ≡ used (view f ns) p n
   used_other p n le ne = elim (side p ne) [
-    | inl l ↦ front_same xs xs' (p * 1023) n (to * 1023) (omega arith) w.before
-    | inr l ↦ ap (take n) (back_same xs xs' (p * 1023) (to * 1023 + 1023) (omega arith) w.beyond)
+    | inl l ↦ front_same (view f ns) (view f ns') (p * 1023) n (to * 1023) (omega arith) kept.before
+    | inr l ↦ ap (take n) (back_same (view f ns) (view f ns') (p * 1023) (to * 1023 + 1023) (omega arith) kept.beyond)
   ]
     where
       side : (p : ℕ) → p ≢ to → (p < to) ⊎ (to < p)
       side p ne = grind arith
 
-  held_other : (p : ℕ) → p < number xs → p ≢ to → held_at xs' (place_at (set places to place) p) p ≡ held_at xs (place_at places p) p
-  held_other p h ne =
-      let q = place_at places p in
-      ap (λ q. held_at xs' q p) (place_other p ne) ∙ ap (λ row. cond (eqb q.nodes 0) None (Some (score_of row))) (used_other p q.nodes (small_places xs places all p h) ne)
+  noted_small : (p : ℕ) (place : Place) → place_at places p ≡ Some place → place.nodes ≤ 1023
+  noted_small p place e = let n = sound.true p place e in omega (arith, n.counts.nodes_are, n.fits.few_nodes)
 
-  sound_after : AllTested xs' (set places to place)
-  sound_after p h = ⊎_elim
-      (λ e. subst (λ (n : ℕ). sound xs' (place_at (set places to place) n) n ≡ true) (sym e) (ap (λ q. sound xs' q to) place_here ∙ w.here_sound))
-      (λ ne.
-      let q = place_at places p in
-      let h' : p < number xs = subst (λ (n : ℕ). p < n) same_number h in
-      ap (λ q. sound xs' q p) (place_other p ne) ∙ ap (λ row. eqb q.nodes 0 || held_row row q.nodes q.primitives) (used_other p q.nodes (small_places xs places all p h') ne) ∙ all p h')
-      (cases_eq p to)
+  held_other : (p : ℕ) → p ≢ to → (o' : Option Place) → place_at places p ≡ o' → held_at (view f ns') p o' ≡ held_at (view f ns) p o'
+  held_other p ne None e = refl
+  held_other p ne (Some place) e = ap (λ row. Some (score_of row)) (used_other p place.nodes (noted_small p place e) ne)
 
-  shelf_after : shelf_of xs' (set places to place) ≡ set (shelf_of xs places) to o
+  pub sound_after : Sound K f ns' (set places to o)
+  sound_after = record { eight = length-set places to o ∙ sound.eight; true = each }
+    where
+      each : (p : ℕ) (place : Place) → place_at (set places to o) p ≡ Some place → Noted K f ns' p place
+      each p place e = ⊎_elim
+          (λ same. subst (λ (q : ℕ). Noted K f ns' q place) (sym same) (now place (sym place_here ∙ ap (place_at (set places to o)) (sym same) ∙ e)))
+          (λ ne.
+          let is = sym (place_other p ne) ∙ e in
+          let n = sound.true p place is in
+          record {
+            there = subst (λ (m : ℕ). p < m) (sym same_number) n.there;
+            score = n.score;
+            stands = used_other p place.nodes (noted_small p place is) ne ∙ n.stands;
+            counts = n.counts;
+            fits = n.fits;
+          })
+          (cases_eq p to)
+
+  pub shelf_after : shelf f ns' (set places to o) ≡ set (shelf f ns places) to (held_at (view f ns') to o)
   shelf_after = same_lists _ _ lengths each
     where
-      lengths : length (shelf_of xs' (set places to place)) ≡ length (set (shelf_of xs places) to o)
-      lengths = length_shelf xs' (set places to place) ∙ same_number ∙ sym (length_shelf xs places) ∙ sym (length-set (shelf_of xs places) to o)
+      held : Option Score
+      held = held_at (view f ns') to o
 
-      each : (k : ℕ) (d : Option Score) → k < length (shelf_of xs' (set places to place)) → get_or (shelf_of xs' (set places to place)) k d ≡ get_or (set (shelf_of xs places) to o) k d
+      lengths : length (shelf f ns' (set places to o)) ≡ length (set (shelf f ns places) to (held_at (view f ns') to o))
+      lengths = length_shelf f ns' (set places to o) ∙ same_number ∙ sym (length_shelf f ns places) ∙ sym (length-set (shelf f ns places) to (held_at (view f ns') to o))
+
+      each : (k : ℕ) (d : Option Score) → k < length (shelf f ns' (set places to o)) → get_or (shelf f ns' (set places to o)) k d ≡ get_or (set (shelf f ns places) to (held_at (view f ns') to o)) k d
       each k d h =
-          let h' : k < number xs' = subst (λ (n : ℕ). k < n) (length_shelf xs' (set places to place)) h in
-          let k-in : k < number xs = subst (λ (n : ℕ). k < n) same_number h' in
-          let to_in : to < length (shelf_of xs places) = subst (λ (n : ℕ). to < n) (sym (length_shelf xs places)) there in
-          at_any xs' (set places to place) k d h' ∙
+          let h' : k < number ns' = subst (λ (n : ℕ). k < n) (length_shelf f ns' (set places to o)) h in
+          let k_in : k < number ns = subst (λ (n : ℕ). k < n) same_number h' in
+          let to_in : to < length (shelf f ns places) = subst (λ (n : ℕ). to < n) (sym (length_shelf f ns places)) there in
+          at_any f ns' (set places to o) k d h' ∙
           ⊎_elim
-          (λ e. ap (λ n. held_at xs' (place_at (set places to place) n) n) e ∙ ap (λ q. held_at xs' q to) place_here ∙ w.here_held
-          ∙ sym (get_or-set_same (shelf_of xs places) to o d to_in) ∙ ap (λ n. get_or (set (shelf_of xs places) to o) n d) (sym e))
-          (λ ne. held_other k k-in ne ∙ sym (at_any xs places k d k-in) ∙ sym (get_or-set_other (shelf_of xs places) to k o d ne))
+          (λ e. ap (λ n. held_at (view f ns') n (place_at (set places to o) n)) e ∙ ap (held_at (view f ns') to) place_here
+          ∙ sym (get_or-set_same (shelf f ns places) to (held_at (view f ns') to o) d to_in) ∙ ap (λ n. get_or (set (shelf f ns places) to (held_at (view f ns') to o)) n d) (sym e))
+          (λ ne. ap (held_at (view f ns') k) (place_other k ne) ∙ held_other k ne (place_at places k) refl ∙ sym (at_any f ns places k d k_in)
+          ∙ sym (get_or-set_other (shelf f ns places) to k (held_at (view f ns') to o) d ne))
           (cases_eq k to)
 
 -- a score's nodes written over the front of a segment
-module _ (K : KindModel) (xs xs' : List (Node Numbers)) (to : ℕ) (s : Score) (place : Place)
-    (there : to < number xs) (e : xs' ≡ overlaid xs (to * 1023) (preorder s)) (fits : Fits K s) (noted : place ≡ place_of (size_of K s)) where
-  placed_score : Placed xs xs' to place (Some s)
-  placed_score =
+module _ {P : Type 0} (K : KindModel) (f : P → Numbers) (ns ns' : List (Node P)) (places : List (Option Place)) (sound : Sound K f ns places)
+    (to : ℕ) (there : to < number ns) (s : Score) (place : Place) (e : view f ns' ≡ overlaid (view f ns) (to * 1023) (preorder s)) (counts : Counts place s) (fits : Fits K s) where
+  room : to * 1023 + length (preorder s) ≤ length (view f ns)
+  room = omega (arith, segment_within ns to there, length-map ns (seen f), length_preorder s, fits.few_nodes)
+
+  kept : Kept (view f ns) (view f ns') to
+  kept =
       let at = to * 1023 in
       let row = preorder s in
-      let long = length_preorder s in
-      let room : at + length row ≤ length xs = omega (arith, segment_within xs to there, long, fits.few_nodes) in
-      let after : drop (at + length row) xs' ≡ drop (at + length row) xs = ap (drop (at + length row)) e ∙ overlaid_after xs at row room in
-      let here : take (nodes s) (drop at xs') ≡ row = ap (λ n. take n (drop at xs')) (sym long) ∙ ap (λ ys. take (length row) (drop at ys)) e ∙ overlaid_here xs at row room in
-      let some = ne_eqb (nodes s) 0 (λ z. omega (arith, some_node s)) in
-      let short : bare s ≤ 16777215 = omega (arith, bare_at_most K s, fits.short) in
-      subst (λ (q : Place). Placed xs xs' to q (Some s)) (sym noted) (record {
-        as_long = ap length e ∙ overlaid_length xs at row room;
-        before = ap (take at) e ∙ overlaid_before xs at row room;
-        beyond = back_same xs xs' (at + 1023) (at + length row) (omega (arith, long, fits.few_nodes)) after;
-        here_sound = ap (λ b. b || held_row (take (nodes s) (drop at xs')) (nodes s) (primitives s)) some ∙ ap (λ ys. held_row ys (nodes s) (primitives s)) here
-            ∙ test_from row (nodes s) (primitives s) (tested_score s fits.few_nodes fits.few_primitives short);
-        here_held = ap (λ b. cond b None (Some (score_of (take (nodes s) (drop at xs'))))) some ∙ ap (λ ys. Some (score_of ys)) here ∙ ap Some (score_preorder s);
+      let after : drop (at + length row) (view f ns') ≡ drop (at + length row) (view f ns) = ap (drop (at + length row)) e ∙ overlaid_after (view f ns) at row room in
+      record {
+        as_long = ap length e ∙ overlaid_length (view f ns) at row room;
+        before = ap (take at) e ∙ overlaid_before (view f ns) at row room;
+        beyond = back_same (view f ns) (view f ns') (at + 1023) (at + length row) (omega (arith, length_preorder s, fits.few_nodes)) after;
+      }
+
+  stands : used (view f ns') to place.nodes ≡ preorder s
+  stands =
+      ap (λ n. used (view f ns') to n) (counts.nodes_are ∙ sym (length_preorder s)) ∙ ap (λ ys. take (length (preorder s)) (drop (to * 1023) ys)) e
+      ∙ overlaid_here (view f ns) (to * 1023) (preorder s) room
+
+  now : (q : Place) → Some place ≡ Some q → Noted K f ns' to q
+  now q is =
+      subst (λ (q : Place). Noted K f ns' to q) (some_same is) (record {
+        there = omega (arith, there, ap length e, overlaid_length (view f ns) (to * 1023) (preorder s) room, length-map ns (seen f), length-map ns' (seen f));
+        score = s;
+        stands = stands;
+        counts = counts;
+        fits = fits;
       })
+    where
+      some_same : {x y : Place} → Some x ≡ Some y → x ≡ y
+      some_same e = grind arith
 
--- the same of a rack
-module _ {P : Type 0} {g : _} (f : P → Numbers) (rack : Rack P g) (ns' : List (Node P)) (to : ℕ) (place : Place) (o : Option Score) (there : to < number rack.row.nodes.now)
-    (w : Placed (view f rack.row.nodes.now) (view f ns') to place o) where
-  tested_before : AllTested (view f rack.row.nodes.now) rack.places
-  tested_before = tested_view f rack.row.nodes.now rack.places rack.sound
+  pub put_sound : Sound K f ns' (set places to (Some place))
+  put_sound = sound_after K f ns ns' places sound to there kept (Some place) now
 
-  there_seen : to < number (view f rack.row.nodes.now)
-  there_seen = omega (arith, number_view f rack.row.nodes.now)
+  pub put_shelf : shelf f ns' (set places to (Some place)) ≡ set (shelf f ns places) to (Some s)
+  put_shelf =
+      shelf_after K f ns ns' places sound to there kept (Some place) now
+      ∙ ap (λ row. set (shelf f ns places) to (Some (score_of row))) stands ∙ ap (λ t. set (shelf f ns places) to (Some t)) (score_preorder s)
 
-  -- its invariant
-  rack_sound : record { eight : length (set rack.places to place) ≡ 8; sound : AllSound ns' (set rack.places to place) }
-  rack_sound = record {
-    eight = length-set rack.places to place ∙ rack.eight;
-    sound = sound_from f ns' (set rack.places to place) (sound_after (view f rack.row.nodes.now) (view f ns') rack.places to place o rack.eight tested_before there_seen w);
-  }
+-- a place emptied
+module _ {P : Type 0} (K : KindModel) (f : P → Numbers) (ns : List (Node P)) (places : List (Option Place)) (sound : Sound K f ns places) (to : ℕ) (there : to < number ns) where
+  as_before : Kept (view f ns) (view f ns) to
+  as_before = record { as_long = refl; before = refl; beyond = refl }
 
-  -- what its places hold
-  rack_holds : shelf_of (view f ns') (set rack.places to place) ≡ set (shelf f rack) to o
-  rack_holds = shelf_after (view f rack.row.nodes.now) (view f ns') rack.places to place o rack.eight tested_before there_seen w
+  none : (place : Place) → None ≡ Some place → Noted K f ns to place
+  none place e = absurd (grind arith)
 
--- a rack after a score is written at a place and noted there
-module _ {P : Type 0} {g : _} (K : KindModel) (f : P → Numbers) (rack : Rack P g) (ns' : List (Node P)) (to : ℕ) (s : Score) (place : Place) (there : to < number rack.row.nodes.now)
-    (e : view f ns' ≡ overlaid (view f rack.row.nodes.now) (to * 1023) (preorder s)) (fits : Fits K s) (noted : place ≡ place_of (size_of K s)) where
-  placed : Placed (view f rack.row.nodes.now) (view f ns') to place (Some s)
-  placed = placed_score K (view f rack.row.nodes.now) (view f ns') to s place (omega (arith, number_view f rack.row.nodes.now, there)) e fits noted
+  pub empty_sound : Sound K f ns (set places to None)
+  empty_sound = sound_after K f ns ns places sound to there as_before None none
 
-  pub score_sound : record { eight : length (set rack.places to place) ≡ 8; sound : AllSound ns' (set rack.places to place) }
-  score_sound = rack_sound f rack ns' to place (Some s) there placed
-
-  pub score_holds : shelf_of (view f ns') (set rack.places to place) ≡ set (shelf f rack) to (Some s)
-  score_holds = rack_holds f rack ns' to place (Some s) there placed
-
--- a rack whose nodes are as they were, by the numbers of the primitives
-module _ {P : Type 0} {g : _} (f : P → Numbers) (rack : Rack P g) (ns' : List (Node P)) (e : view f ns' ≡ view f rack.row.nodes.now) where
-  pub same_sound : record { eight : length rack.places ≡ 8; sound : AllSound ns' rack.places }
-  same_sound = record { eight = rack.eight; sound = sound_from f ns' rack.places (subst (λ xs. AllTested xs rack.places) (sym e) (tested_view f rack.row.nodes.now rack.places rack.sound)) }
-
-  pub same_holds : shelf_of (view f ns') rack.places ≡ shelf f rack
-  same_holds = ap (λ xs. shelf_of xs rack.places) e
-
--- a rack after the note of a place is emptied
-module _ {P : Type 0} {g : _} (f : P → Numbers) (rack : Rack P g) (to : ℕ) (there : to < number rack.row.nodes.now) where
-  placed_nothing : Placed (view f rack.row.nodes.now) (view f rack.row.nodes.now) to empty_place None
-  placed_nothing = record { as_long = refl; before = refl; beyond = refl; here_sound = refl; here_held = refl }
-
-  pub empty_sound : record { eight : length (set rack.places to empty_place) ≡ 8; sound : AllSound rack.row.nodes.now (set rack.places to empty_place) }
-  empty_sound = rack_sound f rack rack.row.nodes.now to empty_place None there placed_nothing
-
-  pub empty_holds : shelf_of (view f rack.row.nodes.now) (set rack.places to empty_place) ≡ set (shelf f rack) to None
-  empty_holds = rack_holds f rack rack.row.nodes.now to empty_place None there placed_nothing
+  pub empty_shelf : shelf f ns (set places to None) ≡ set (shelf f ns places) to None
+  empty_shelf = shelf_after K f ns ns places sound to there as_before None none

@@ -1,8 +1,9 @@
 -- The bytes that write gives are the one file of the held score.
-use Rattle.std.proofs.Common.{◌≡◌, ℕ, ◌≤◌, List, length, take, drop, IfOk, Ok, Err, Result, sym, ap, ◌∙◌, subst, arith}
+use Rattle.std.proofs.Common.{◌≡◌, ℕ, List, length, take, drop, IfOk, Ok, Err, Result, sym, ap, ◌∙◌, subst, arith}
 use Rattle.std.proofs.lemmas.List.{take_at}
 use Rattle.algebra.specs.Kind.{KindModel, KindLaws}
-use Rattle.algebra.specs.Score.{Score, Legal, nodes, primitives, score_length}
+use Rattle.algebra.specs.Score.{Score}
+use Rattle.algebra.specs.Limits.{Holdable}
 use Rattle.refusals.specs.declared.refusal.Refusal.{Refusal}
 use Rattle.grammar.specs.Loads.{Loads, file_bytes}
 use Rattle.grammar.proofs.Standing.{one_answer, read_exactly, written_back}
@@ -10,15 +11,12 @@ use Rattle.writing.specs.Writes.{written_answer, written_over}
 use Rattle.rack.specs.Calls.{load_answer, put, score_read}
 use Rattle.rack.specs.Written.{FileOf}
 
-module _ (K : KindModel) (laws : KindLaws K) (s : Score) (legal : Legal K s) (few : nodes s ≤ 1023) (sparse : primitives s ≤ 170) where
-  accepted : score_length K s ≤ 16777215 → Loads K (file_bytes K s) (Ok s)
-  accepted short = written_back K laws s (record { legal = legal; fits = record { few_nodes = few; few_primitives = sparse; short = short } })
-
+module _ (K : KindModel) (laws : KindLaws K) (s : Score) (holdable : Holdable K s) where
   pub file_of_lem : FileOf K s (file_bytes K s)
   file_of_lem = record {
-    accepted = accepted;
-    returned = λ short to before after answer l.
-        let same = one_answer K (file_bytes K s) l.given (Ok s) l.gives (accepted short) in
+    accepted = written_back K laws s holdable;
+    returned = λ to before after answer l.
+        let same = one_answer K (file_bytes K s) l.given (Ok s) l.gives (written_back K laws s holdable) in
         record {
           answer_is = l.answer_is ∙ ap (λ q. load_answer q before to) same;
           after_is = l.after_is ∙ ap (λ q. put answer before to (score_read q)) same;

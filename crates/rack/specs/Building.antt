@@ -1,12 +1,10 @@
 -- What the calls answer that put a new score at an empty place.
-use Rattle.std.specs.Prelude.{◌≡◌, ℕ, ◌<◌, List, [], ◌∷◌, ◌++◌, nat_le}
+use Rattle.std.specs.Prelude.{ℕ, List, [], ◌∷◌, ◌++◌, nat_le}
 use Rattle.algebra.specs.Kind.{KindModel}
 use Rattle.algebra.specs.Score.{Score}
 use Rattle.nodes.specs.declared.join.Join.{Join}
 use Rattle.nodes.specs.Joins.{joined}
 use Rattle.refusals.specs.declared.refusal.Refusal.TheVariants.{BadValue}
-use Rattle.rack.specs.declared.rack.Rack.{Rack}
-use Rattle.rack.specs.Places.{number, place_at}
 use Rattle.rack.specs.Shelves.{Shelf, score_held}
 use Rattle.refusals.specs.Checks.{Check, all, unless}
 use Rattle.building.specs.Sizes.{limits}
@@ -20,15 +18,6 @@ rest_answer shelf to ticks = all (unless (nat_le ticks 16777215) (BadValue ticks
 abbrev pub joinable : Shelf → ℕ → ℕ → ℕ → List Check
 joinable shelf to a b = known shelf to ∷ known shelf a ∷ known shelf b ∷ holding shelf a ∷ holding shelf b ∷ vacant shelf to ∷ []
 
--- Two places hold scores, and the destination is an empty place.
-pub record Joinable {K : Type 0} {g : _} (rack : Rack K g) (to a b : ℕ) : Type 0 where
-  pub to_known : to < number rack.row.nodes.now
-  pub first_known : a < number rack.row.nodes.now
-  pub second_known : b < number rack.row.nodes.now
-  pub first_held : 0 < (place_at rack.places a).nodes
-  pub second_held : 0 < (place_at rack.places b).nodes
-  pub to_empty : (place_at rack.places to).nodes ≡ 0
-
 -- The result of a join.
 abbrev pub joined_at : Join → Shelf → ℕ → ℕ → Score
 joined_at join shelf a b = joined join (score_held shelf a) (score_held shelf b)
@@ -40,13 +29,6 @@ join_answer K join shelf to a b = all (joinable shelf to a b ++ limits K (joined
 -- The places of a call that makes a score from one: 21 for the destination and for the source, 22 for the source, 23.
 abbrev pub makeable : Shelf → ℕ → ℕ → List Check
 makeable shelf to from = known shelf to ∷ known shelf from ∷ holding shelf from ∷ vacant shelf to ∷ []
-
--- One place holds a score, and the destination is an empty place.
-pub record Makeable {K : Type 0} {g : _} (rack : Rack K g) (to from : ℕ) : Type 0 where
-  pub to_known : to < number rack.row.nodes.now
-  pub from_known : from < number rack.row.nodes.now
-  pub from_held : 0 < (place_at rack.places from).nodes
-  pub to_empty : (place_at rack.places to).nodes ≡ 0
 
 -- Reverse, take, drop and normalise, by the score that they make: 21, 22 and 23 by the places, and 26 and 27 by the result.
 abbrev pub make_answer : KindModel → Shelf → ℕ → ℕ → Score → Check

@@ -4,6 +4,3 @@ pub mod Checks
 pub mod Calls
 pub mod Written
 pub mod Building
-pub mod Steps
-pub mod Drawing
-pub mod Comparing

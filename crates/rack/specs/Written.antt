@@ -1,7 +1,7 @@
 -- What the bytes that write gives mean to load.
-use Rattle.std.specs.Prelude.{◌≡◌, ℕ, ◌≤◌, List, [], ◌∷◌, Ok}
+use Rattle.std.specs.Prelude.{◌≡◌, ℕ, List, [], ◌∷◌, Ok}
 use Rattle.algebra.specs.Kind.{KindModel}
-use Rattle.algebra.specs.Score.{Score, score_length}
+use Rattle.algebra.specs.Score.{Score}
 use Rattle.grammar.specs.Loads.{Loads}
 use Rattle.rack.specs.Shelves.{Shelf}
 use Rattle.refusals.specs.Checks.{Check, all}
@@ -13,9 +13,9 @@ pub record Returned (s : Score) (to : ℕ) (before after : Shelf) (answer : Chec
   pub answer_is : answer ≡ all (known before to ∷ vacant before to ∷ [])
   pub after_is : after ≡ put answer before to s
 
--- The bytes are the one file of a score. Where the score is no longer than a score may be, they are accepted, and any
--- loading of them on a rack of the kind is a loading of that score. No other text gives that score.
+-- The bytes are the one file of a score: they are accepted, any loading of them on a rack of the kind is a loading of
+-- that score, and no other text gives that score.
 pub record FileOf (K : KindModel) (s : Score) (bytes : List ℕ) : Type 0 where
-  pub accepted : score_length K s ≤ 16777215 → Loads K bytes (Ok s)
-  pub returned : score_length K s ≤ 16777215 → (to : ℕ) (before after : Shelf) (answer : Check) → LoadedAt K bytes to before after answer → Returned s to before after answer
+  pub accepted : Loads K bytes (Ok s)
+  pub returned : (to : ℕ) (before after : Shelf) (answer : Check) → LoadedAt K bytes to before after answer → Returned s to before after answer
   pub only : (text : List ℕ) → Loads K text (Ok s) → text ≡ bytes

@@ -3,4 +3,3 @@
 
 pub mod place;
 pub mod rack;
-mod row;

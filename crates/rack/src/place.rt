@@ -4,24 +4,18 @@ ghost use Rattle.rack.specs.Places.{place_of};
 
 use building::size::Size;
 
-// How many nodes and primitives a score has: no nodes where the place is empty.
+// How many nodes and primitives a score has.
 #[derive(Clone, Copy)]
 pub struct Place {
     pub nodes: u32,
     pub primitives: u32,
 }
 
-// The note of an empty place.
-pub const EMPTY: Place = Place {
-    nodes: 0,
-    primitives: 0,
-};
+// The note of a score of a size.
+impl From<Size> for Place {
+    ghost from_gives = { λ size result. result ≡ place_of size };
 
-impl Place {
-    // The note of a score of a size.
-    pub fn of(size: Size) -> Place
-        ensures { result ≡ place_of size }
-    {
+    fn from(size: Size) -> Place {
         Place {
             nodes: size.nodes,
             primitives: size.primitives,

@@ -1,5 +1,6 @@
 -- Readers of parts make a reader of the whole.
-use Rattle.std.proofs.Common.{◌≡◌, ℕ, List, [], ◌∷◌, ◌++◌, length, get_or, drop, IsErrAnd, Ok, Err, Result, sym, refl, ap, ◌∙◌, subst, append_assoc, arith, Bor, MatchResult}
+use Rattle.std.proofs.Common.{◌≡◌, ℕ, List, [], ◌∷◌, ◌++◌, length, get_or, drop, sym, refl, ap, ◌∙◌, subst, append_assoc, arith, Bor}
+use Rattle.std.proofs.lemmas.Grind.{common_steps}
 use mathlib.Core.List.{append_cancel_left}
 use Rattle.std.proofs.lemmas.List.{length-append}
 use Rattle.refusals.specs.declared.refusal.Refusal.{Refusal}
@@ -41,7 +42,7 @@ opens_agrees G (b ∷ t) x a o = subst (Opens G) (sym a.1) o
 -- a part, and then another
 module _ (L M : List ℕ → Type 0) (G H : ℕ → Type 0) (f : Follows G M) where
   behind : (p x u z : List ℕ) (w : Then L M u) → p ++ x ≡ u ++ z → p ++ x ≡ w.front ++ (w.back ++ z)
-  behind p x u z w e = e ∙ ap (λ l. l ++ z) w.split ∙ append_assoc w.front w.back z
+  behind p x u z w e = grind (arith, common_steps)
 
   then_sure : (p q t : List ℕ) → Sure L G p (q ++ t) → Sure M H q t → Sure (Then L M) H (p ++ q) t
   then_sure p q t s₁ s₂ = λ v z x a w oz e.
@@ -57,7 +58,7 @@ module _ (L M : List ℕ → Type 0) (G H : ℕ → Type 0) (f : Follows G M) wh
       k w.back z x a w.second oz (append_cancel_left p _ _ (e' ∙ ap (λ l. l ++ (w.back ++ z)) (sym one)))
 
   first_stuck : (p t : List ℕ) → Stuck L G p t → Stuck (Then L M) H p t
-  first_stuck p t k = λ u z x a w oz e. k w.front (w.back ++ z) x a w.first (f w.back z w.second) (behind p x u z w e)
+  first_stuck p t k = grind (arith, common_steps)
 
 module _ {L M : List ℕ → Type 0} {G H : ℕ → Type 0} (f : Follows G M) where
   pub then_passed : {text v w : List ℕ} {a b c : ℕ} → Passed L G v text a b → Passed M H w text b c → Passed (Then L M) H (v ++ w) text a c
@@ -127,24 +128,10 @@ module _ (L M : List ℕ → Type 0) (G : ℕ → Type 0) (b : ℕ) (part : (w :
 -- two names of one set of words, and less that may follow
 module _ {L M : List ℕ → Type 0} {G H : ℕ → Type 0} (to-M : (w : List ℕ) → L w → M w) (to-L : (w : List ℕ) → M w → L w) (fewer : (z : List ℕ) → Opens H z → Opens G z) where
   pub same_passed : {w text : List ℕ} {from to : ℕ} → Passed L G w text from to → Passed M H w text from to
-  same_passed p = record {
-    moved = p.moved;
-    within = p.within;
-    is = to-M _ p.is;
-    split = p.split;
-    sure = λ v z x a is oz e. p.sure v z x a (to-L v is) (fewer z oz) e;
-  }
+  same_passed p = grind (arith, common_steps)
 
   pub same_stopped : {text : List ℕ} {from to : ℕ} → Stopped L G text from to → Stopped M H text from to
-  same_stopped p = record {
-    after = p.after;
-    within = p.within;
-    front = p.front;
-    split = p.split;
-    more = p.more;
-    begun = to-M _ p.begun;
-    stuck = λ v z x a is oz e. p.stuck v z x a (to-L v is) (fewer z oz) e;
-  }
+  same_stopped p = grind (arith, common_steps)
 
 -- what follows does not matter to L, and so not to a caller to whom it does
 pub loose_passed : {L : List ℕ → Type 0} (G : ℕ → Type 0) {w text : List ℕ} {from to : ℕ} → Passed L Any w text from to → Passed L G w text from to
@@ -158,11 +145,10 @@ fault_map f h = record { offset = h.offset; is = h.is; stopped = f h.offset h.st
 
 -- the same of readers, which keep their text and their section
 pub passed_kept : {L : List ℕ → Type 0} {G : ℕ → Type 0} {w : List ℕ} {s t : Bor (List ℕ)} {from to : ℕ} → t ≡ s → Passed L G w t.now from to → Passed L G w s.now from to
-passed_kept {L} {G} {w} {from = from} {to = to} e p = subst (λ (r : Bor (List ℕ)). Passed L G w r.now from to) e p
+passed_kept {L} {G} {w} {from = from} {to = to} e p = grind (arith, common_steps)
 
 pub faulty_kept : {L : List ℕ → Type 0} {G : ℕ → Type 0} {s t : Bor (List ℕ)} {from : ℕ} {x y : Section} {e : Refusal} → t ≡ s → y ≡ x → Faulty L G t.now from y e → Faulty L G s.now from x e
-faulty_kept {L} {G} {s} {from = from} {y = y} {e = e} kept section h =
-    subst (λ (x : Section). Faulty L G s.now from x e) section (subst (λ (r : Bor (List ℕ)). Faulty L G r.now from y e) kept h)
+faulty_kept {L} {G} {s} {from = from} {y = y} {e = e} kept section h = grind (arith, common_steps)
 
 module _ {L M : List ℕ → Type 0} {G H : ℕ → Type 0} (f : Follows G M) where
   pub over_then : {v w : List ℕ} {s t u : Reader} → Over L G v s t → Over M H w t u → Over (Then L M) H (v ++ w) s u
@@ -177,8 +163,3 @@ module _ {L M : List ℕ → Type 0} {G H : ℕ → Type 0} (f : Follows G M) wh
 
   pub fault_first : (m : List ℕ) → M m → {text : List ℕ} {from : ℕ} {section : Section} {e : Refusal} → Faulty L G text from section e → Faulty (Then L M) H text from section e
   fault_first m is h = fault_map (λ o k. first_stopped f m is k) h
-
--- the exit of a `?` whose refusal goes up unaltered
-pub refused_up : {T E : Type 0} (P : T → Type 0) (Q : E → Type 0) (r : Result T E) (e : E) → IsErrAnd r (λ y. y ≡ e) → Q e → MatchResult r P Q
-refused_up P Q (Ok x) e h q = absurd h
-refused_up P Q (Err y) e h q = subst Q (sym h) q

@@ -1,5 +1,6 @@
 -- The parts of a term: numbers with commas, and signs.
-use Rattle.std.proofs.Common.{◌≡◌, ℕ, ◌≤◌, ◌⊎◌, List, [], ◌∷◌, ◌++◌, get_or, codes, decimal, sym, refl, ap, subst, inl, inr, ⊎_elim, arith}
+use Rattle.std.proofs.Common.{◌≡◌, ℕ, ◌⊎◌, List, [], ◌∷◌, ◌++◌, get_or, codes, decimal, sym, refl, ap, subst, inl, inr, ⊎_elim, arith}
+use Rattle.std.proofs.lemmas.Grind.{common_steps}
 use Rattle.std.specs.List.{ContainsAt as Has}
 use Rattle.refusals.specs.declared.refusal.Refusal.{Refusal}
 use Rattle.refusals.specs.declared.refusal.Section.{Section}
@@ -36,9 +37,6 @@ mark_follows k none v z h =
 comma_follows : Follows NoDigit (OneOf (codes ","))
 comma_follows = mark_follows 44 (λ d. omega arith)
 
-pub is_field : (n : ℕ) → n ≤ 4294967295 → Field (field n)
-is_field n le = record { front = decimal n; back = 44 ∷ []; first = (n, le, refl); second = (44, has_first 44 [], refl); split = refl }
-
 pub field_first : {text : List ℕ} {from : ℕ} {section : Section} {e : Refusal} → Faulty (Numeral 4294967295) NoDigit text from section e → Faulty Field Any text from section e
 field_first h = fault_first comma_follows (44 ∷ []) (44, has_first 44 [], refl) h
 
@@ -50,10 +48,10 @@ field_over p m = over_then comma_follows p (only_mark m)
 
 -- fields that serve where a part before them is refused
 some_fields_1 : Then Field (Numeral 4294967295) (field 0 ++ decimal 0)
-some_fields_1 = record { front = field 0; back = decimal 0; first = is_field 0 (omega arith); second = (0, omega arith, refl); split = refl }
+some_fields_1 = grind (arith, common_steps)
 
 some_fields_2 : Then Field (Then Field (Numeral 4294967295)) (field 0 ++ (field 0 ++ decimal 0))
-some_fields_2 = record { front = field 0; back = field 0 ++ decimal 0; first = is_field 0 (omega arith); second = some_fields_1; split = refl }
+some_fields_2 = grind (arith, common_steps)
 
 pub fields_1 : {text : List ℕ} {from : ℕ} {section : Section} {e : Refusal} → Faulty Field Any text from section e → Faulty Fields NoDigit text from section e
 fields_1 h = fault_first (follows_any _) _ some_fields_2 h

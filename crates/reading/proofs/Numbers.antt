@@ -1,10 +1,11 @@
 -- Numbers in base ten.
-use Rattle.std.proofs.Common.{◌≡◌, ℕ, ◌+◌, ◌-◌, ◌*◌, ◌/◌, ◌%◌, ◌^◌, ◌<◌, ◌≤◌, List, [], ◌∷◌, ◌++◌, map, length, get_or, take, drop, decimal, sym, refl, ap, ◌∙◌, subst, ⊎_elim, append_assoc, append-nil, arith, take-append-drop}
+use Rattle.std.proofs.Common.{◌≡◌, ℕ, ◌+◌, ◌-◌, ◌*◌, ◌/◌, ◌%◌, ◌^◌, ◌<◌, ◌≤◌, List, [], ◌∷◌, ◌++◌, map, length, get_or, take, drop, decimal, sym, refl, ap, ◌∙◌, subst, ⊎_elim, append_assoc, append-nil, arith}
 use mathlib.Core.List.{map-append, append_cancel_left}
 use Rattle.std.specs.Char.{digit_value}
 use Rattle.std.specs.Int.Digits.{number_from_digits, number_from_digits_after}
 use Rattle.std.specs.List.{AllByRecursion}
 use Rattle.std.proofs.ByRecursion.{All-append, All-get_or}
+use Rattle.std.proofs.lemmas.Grind.{common_steps}
 use Rattle.std.proofs.lemmas.Fmt.{decimal_by_steps, decimal_is_IsNumeral, decimal_digit, decimal_step, decimal_nonempty, first_decimal}
 use Rattle.std.proofs.lemmas.Int.Digits.{digits_value_is, number_after_append, number_after_ge}
 use Rattle.std.proofs.lemmas.List.{take_more, drop_more, drop-drop, drop-append-le, get_or_append_left}
@@ -78,17 +79,7 @@ module _ (limit : ℕ) (small : limit < 2 ^ 32) (ds : List ℕ) (digits : AllByR
   step h w e le = record { none = λ e. absurd (omega arith); some = λ _. grown h ∙ ap decimal (sym e); below = le }
 
   refuse : (more : List ℕ) → Numeral limit (take i ds ++ more) → ((u z x : List ℕ) → Numeral limit u → Opens NoDigit z → take i ds ++ (get_or ds i 0 ∷ x) ≡ u ++ z → ⊥) → Stopped (Numeral limit) NoDigit ds 0 i
-  refuse more begun stuck = record {
-    after = omega arith;
-    within = omega arith;
-    front = take i ds;
-    split = sym (take-append-drop i ds);
-    more = more;
-    begun = begun;
-    stuck =
-        subst (Stuck (Numeral limit) NoDigit (take i ds)) (sym (drop_more ds i 0 in'))
-        (λ u z x a n oz e. stuck u z a.0 n oz (ap (λ l. take i ds ++ l) (sym a.1) ∙ e));
-  }
+  refuse more begun stuck = grind (arith, common_steps)
 
   begun : (more : List ℕ) × Numeral limit (take i ds ++ more)
   begun =

@@ -1,5 +1,6 @@
 -- How the readers of a term's parts make up a reader of terms.
 use Rattle.std.proofs.Common.{◌≡◌, ℕ, ◌⊎◌, List, [], ◌∷◌, ◌++◌, length, get_or, codes, decimal, sym, refl, ap, ◌∙◌, subst, inl, inr, ⊎_elim, arith}
+use Rattle.std.proofs.lemmas.Grind.{common_steps}
 use Rattle.std.specs.List.{ContainsAt as Has}
 use Rattle.refusals.specs.declared.refusal.Refusal.{Refusal}
 use Rattle.algebra.specs.declared.numbers.Numbers.{Numbers}
@@ -12,7 +13,7 @@ use Rattle.reading.specs.Passing.{Any, NoDigit, Over, Fault}
 use Rattle.reading.specs.Taking.{NoMark}
 use Rattle.reading.proofs.Composition.{Follows, follows_any, follows_then, over_then, fault_then, fault_first, fault_map, choose_passed, choose_stopped, loose_passed, loose_stopped}
 use Rattle.reading.proofs.Steps.{has_first, has_second, has_only, has_cases, stopped_here, just_passed}
-use Rattle.reading.proofs.Leaves.{mark_follows, is_field, sign_cases, sign_follows, no_only_mark}
+use Rattle.reading.proofs.Leaves.{mark_follows, sign_cases, sign_follows, no_only_mark}
 use Rattle.reading.proofs.Whole.{some_body}
 
 -- a pair, behind its parenthesis
@@ -100,19 +101,7 @@ rest_only u z x h e = go h.0 h.1 h.2 (first_byte h.0 u z x 114 h.2 e)
     go (parallel p q) l is b = absurd (omega arith)
 
 is_fields : (p : Numbers) → Words p → Fields (fields p)
-is_fields p l = record {
-  front = field p.first;
-  back = field p.second ++ (field p.third ++ decimal p.fourth);
-  first = is_field p.first l.first;
-  second = record {
-    front = field p.second;
-    back = field p.third ++ decimal p.fourth;
-    first = is_field p.second l.second;
-    second = record { front = field p.third; back = decimal p.fourth; first = is_field p.third l.third; second = (p.fourth, l.fourth, refl); split = refl };
-    split = refl;
-  };
-  split = refl;
-}
+is_fields p l = grind (arith, common_steps)
 
 primitive_only : (u z x : List ℕ) → Body u → u ++ z ≡ 112 ∷ x → After 112 Fields u
 primitive_only u z x h e = go h.0 h.1 h.2 (first_byte h.0 u z x 112 h.2 e)

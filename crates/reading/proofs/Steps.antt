@@ -1,7 +1,8 @@
 -- One word: a mark, a fixed text, a run of digits, a name, or the end.
-use Rattle.std.proofs.Common.{◌≡◌, ℕ, zero, suc, ◌+◌, ◌-◌, ◌<◌, ◌≤◌, ◌⊎◌, List, [], ◌∷◌, ◌++◌, length, get_or, take, drop, sym, refl, ap, ◌∙◌, subst, inl, inr, ⊎_elim, append-nil, arith, take-append-drop}
-use mathlib.Core.List.{append_cancel_left, append_cancel_right}
-use Rattle.std.specs.List.{ContainsAt as Has, between}
+use Rattle.std.proofs.Common.{◌≡◌, ℕ, zero, suc, ◌+◌, ◌<◌, ◌≤◌, ◌⊎◌, List, [], ◌∷◌, ◌++◌, length, get_or, take, drop, sym, refl, ap, ◌∙◌, subst, inl, inr, ⊎_elim, append-nil, arith, take-append-drop}
+use Rattle.std.proofs.lemmas.Grind.{common_steps}
+use mathlib.Core.List.{append_cancel_left}
+use Rattle.std.specs.List.{ContainsAt as Has, AllByRecursion, between}
 use Rattle.std.proofs.lemmas.List.{drop_more, drop_all, take_more, nil_from_length, length-append}
 use Rattle.std.proofs.lemmas.List.Edits.{get_or-between, length-between, split_between}
 use Rattle.std.proofs.ByRecursion.{All-from_get_or}
@@ -10,11 +11,11 @@ use Rattle.algebra.specs.Kind.{Letter, Name}
 use Rattle.reading.specs.Languages.{Just, Then, OneOf, Digit, Digits}
 use Rattle.refusals.specs.declared.refusal.Refusal.{Refusal}
 use Rattle.reading.specs.declared.reader.Reader.{Reader}
-use Rattle.reading.specs.Passing.{Opens, Any, Nothing, NoDigit, NoLetter, Sure, Stuck, Passed, Stopped, Fault}
+use Rattle.reading.specs.Passing.{Opens, Any, NoDigit, NoLetter, Sure, Stuck, Passed, Stopped, Fault}
 use Rattle.reading.specs.declared.word.Lexeme.{Lexeme}
 use Rattle.reading.specs.declared.word.Word.{Word}
 use Rattle.reading.specs.Taking.{lexeme_of, Taken, NoMark}
-use Rattle.reading.proofs.Composition.{follows_any, opens_agrees, then_passed, then_stopped, first_stopped, same_passed, same_stopped}
+use Rattle.reading.proofs.Composition.{follows_any, opens_agrees, then_stopped, first_stopped, same_stopped}
 use Rattle.reading.proofs.Runs.{front_run, same_run}
 
 -- a wanted byte is the first or one of the others
@@ -40,11 +41,7 @@ some_name = record { some = omega arith; short = omega arith; letters = ((omega 
 
 -- what a byte at the offset has to be, at the end of the text or not
 pub opens_at : (G : ℕ → Type 0) (text : List ℕ) (at : ℕ) → (at < length text → G (get_or text at 0)) → Opens G (drop at text)
-opens_at G text at h =
-    ⊎_elim
-    (λ lt. subst (Opens G) (sym (drop_more text at 0 lt)) (h lt))
-    (λ ge. subst (Opens G) (sym (drop_all at text ge)) tt)
-    (order at (length text))
+opens_at G text at h = grind (arith, common_steps)
 
 -- nothing is read, since no word is empty or begins with the byte at the offset
 pub stopped_here : (L : List ℕ → Type 0) (G : ℕ → Type 0) (text : List ℕ) (at : ℕ) → at ≤ length text → (m : List ℕ) → L m → (L [] → ⊥) → (at < length text → (u z more : List ℕ) → L u → Opens G z → get_or text at 0 ∷ more ≡ u ++ z → ⊥) → Stopped L G text at at
@@ -60,17 +57,6 @@ stopped_here L G text at le m is some h = record {
       (λ lt. subst (Stuck L G []) (sym (drop_more text at 0 lt)) (λ u z x a l oz e. h lt u z a.0 l oz (sym a.1 ∙ e)))
       (λ ge. subst (Stuck L G []) (sym (drop_all at text ge)) (λ u z x a l oz e. some (subst L (nil_from_length u (omega (arith, ap length (sym a ∙ e), length-append u z))) l)))
       (order at (length text));
-}
-
-pub mark_passed : (text wanted : List ℕ) (at b : ℕ) → at < length text → get_or text at 0 ≡ b → Has wanted b → Passed (OneOf wanted) Any (b ∷ []) text at (at + 1)
-mark_passed text wanted at b lt e one = record {
-  moved = refl;
-  within = omega arith;
-  is = (b, one, refl);
-  split = drop_more text at 0 lt ∙ ap (λ b. b ∷ drop (at + 1) text) e;
-  sure = λ v z x a is oz e'.
-      let same : b ≡ is.0 = ap (λ l. get_or l 0 0) (e' ∙ ap (λ l. l ++ z) is.2) in
-      ap (λ k. k ∷ []) same ∙ sym is.2;
 }
 
 pub mark_stopped : (text wanted : List ℕ) (at b : ℕ) → Has wanted b → at ≤ length text → (at < length text → Has wanted (get_or text at 0) → ⊥) → Stopped (OneOf wanted) Any text at at
@@ -103,10 +89,7 @@ split_text a b w e = record { front = a; back = b; first = refl; second = refl; 
 
 module _ {text : List ℕ} (want : List ℕ) (i : ℕ) (lt : i < length want) {from at : ℕ} (before : Passed (Just (take i want)) Any (take i want) text from at) where
   pub key_more : {to b : ℕ} → b ≡ get_or want i 0 → Passed (Just (b ∷ [])) Any (b ∷ []) text at to → Passed (Just (take (i + 1) want)) Any (take (i + 1) want) text from to
-  key_more {to} {b} same p =
-      let e : take i want ++ (b ∷ []) ≡ take (i + 1) want = ap (λ x. take i want ++ (x ∷ [])) same ∙ sym (take_more want i 0 lt) in
-      subst (λ w. Passed (Just w) Any w text from to) e
-      (same_passed (two_texts (take i want) (b ∷ [])) (split_text (take i want) (b ∷ [])) (λ z o. o) (then_passed (follows_any _) before p))
+  key_more {to} {b} same p = grind (arith, common_steps)
 
   pub key_fault : {offset : ℕ} → Stopped (Just (get_or want i 0 ∷ [])) Any text at offset → Stopped (Just want) Any text from offset
   key_fault h =
@@ -116,29 +99,28 @@ module _ {text : List ℕ} (want : List ℕ) (i : ℕ) (lt : i < length want) {f
       same_stopped {M = Just want} (λ w k. two_texts front (drop (i + 1) want) w k ∙ whole) (λ w k. split_text front (drop (i + 1) want) w (k ∙ sym whole)) (λ z o. o)
       (first_stopped {H = Any} (follows_any _) (drop (i + 1) want) refl upto)
 
-pub nothing_passed : (text : List ℕ) (at : ℕ) → at ≤ length text → Passed (Just []) Any [] text at at
-nothing_passed text at le = record { moved = omega arith; within = le; is = refl; split = refl; sure = λ v z x a is oz e. sym is }
-
 -- the bytes from one offset to another
 module _ (text : List ℕ) where
   pub front_between : (from to : ℕ) → from ≤ to → drop from text ≡ between from to text ++ drop to text
   front_between from to le = append_cancel_left (take from text) _ _ (take-append-drop from text ∙ split_between text from to le)
 
-  pub passed_between : {L : List ℕ → Type 0} {G : ℕ → Type 0} {w : List ℕ} {from to : ℕ} → Passed L G w text from to → between from to text ≡ w
-  passed_between {w = w} {from = from} {to = to} p =
-      append_cancel_right (between from to text) w (drop to text) (sym (front_between from to (omega (arith, p.moved))) ∙ p.split)
+  -- each of the bytes of a run
+  run_all : (P : ℕ → Type 0) (from n : ℕ) → from + n ≤ length text → ((k : ℕ) → k < n → P (get_or text (from + k) 0)) → AllByRecursion P (between from (from + n) text)
+  run_all P from n within each =
+      All-from_get_or P (between from (from + n) text) 0 (λ i h.
+      let lt : i < n = omega (arith, h, length-between text from (from + n) within) in
+      subst P (sym (get_or-between text from (from + n) i 0 (omega arith))) (each i lt))
 
-  pub digits_passed : (from to : ℕ) → from ≤ to → to ≤ length text → ((k : ℕ) → from ≤ k → k < to → Digit (get_or text k 0)) → Opens NoDigit (drop to text) → Passed Digits NoDigit (between from to text) text from to
-  digits_passed from to a within digits ends =
-      let w = between from to text in
-      let long : length w ≡ to - from = length-between text from to within in
-      let all : Digits w = All-from_get_or Digit w 0 (λ i h. subst Digit (sym (get_or-between text from to i 0 (omega (arith, h, long)))) (digits (from + i) (omega arith) (omega (arith, h, long)))) in
+  pub digits_passed : (from n : ℕ) → from + n ≤ length text → ((k : ℕ) → k < n → Digit (get_or text (from + k) 0)) → Opens NoDigit (drop (from + n) text) → Passed Digits NoDigit (between from (from + n) text) text from (from + n)
+  digits_passed from n within digits ends =
+      let w = between from (from + n) text in
+      let all : Digits w = run_all Digit from n within digits in
       record {
-        moved = omega arith;
+        moved = omega (arith, length-between text from (from + n) within);
         within = within;
         is = all;
-        split = front_between from to a;
-        sure = λ v z x a is oz e. same_run Digit w x v z all is (opens_agrees NoDigit (drop to text) x a ends) oz e;
+        split = front_between from (from + n) (omega arith);
+        sure = λ v z x a is oz e. same_run Digit w x v z all is (opens_agrees NoDigit (drop (from + n) text) x a ends) oz e;
       }
 
   name_sure : (w t : List ℕ) → Name w → (length w < 8 → Opens NoLetter t) → Sure Name NoLetter w t
@@ -151,21 +133,17 @@ module _ (text : List ℕ) where
       sym (r.1 ∙ ap (λ l. w ++ l) (nil_from_length r.0 none) ∙ append-nil w))
       (order (length w) 8)
 
-  pub name_passed : (from to : ℕ) → from < to → to ≤ length text → to ≤ from + 8 → ((k : ℕ) → from ≤ k → k < to → Letter (get_or text k 0)) → (to < length text → to < from + 8 → NoLetter (get_or text to 0)) → Passed Name NoLetter (between from to text) text from to
-  name_passed from to some within short letters ends =
-      let w = between from to text in
-      let long : length w ≡ to - from = length-between text from to within in
-      let name : Name w = record {
-        some = omega arith;
-        short = omega arith;
-        letters = All-from_get_or Letter w 0 (λ i h. subst Letter (sym (get_or-between text from to i 0 (omega (arith, h, long)))) (letters (from + i) (omega arith) (omega (arith, h, long))));
-      } in
+  pub name_passed : (from n : ℕ) → 0 < n → n ≤ 8 → from + n ≤ length text → ((k : ℕ) → k < n → Letter (get_or text (from + k) 0)) → (n < 8 → from + n < length text → NoLetter (get_or text (from + n) 0)) → Passed Name NoLetter (between from (from + n) text) text from (from + n)
+  name_passed from n some short within letters ends =
+      let w = between from (from + n) text in
+      let long : length w ≡ n = length-between text from (from + n) within ∙ omega arith in
+      let name : Name w = record { some = omega arith; short = omega arith; letters = run_all Letter from n within letters } in
       record {
         moved = omega arith;
         within = within;
         is = name;
-        split = front_between from to (omega arith);
-        sure = name_sure w (drop to text) name (λ lt. opens_at NoLetter text to (λ l. ends l (omega arith)));
+        split = front_between from (from + n) (omega arith);
+        sure = name_sure w (drop (from + n) text) name (λ lt. opens_at NoLetter text (from + n) (ends (omega arith)));
       }
 
   pub name_stopped : (from : ℕ) → from ≤ length text → (from < length text → NoLetter (get_or text from 0)) → Stopped Name NoLetter text from from
@@ -178,21 +156,6 @@ module _ (text : List ℕ) where
       go (c ∷ u) z more n e none =
           let same : get_or text from 0 ≡ c = ap (λ l. get_or l 0 0) e in
           none (subst Letter (sym same) n.letters.0)
-
-  pub end_stopped : (at : ℕ) → at < length text → Stopped (Just []) Nothing text at at
-  end_stopped at lt = record {
-    after = omega arith;
-    within = omega arith;
-    front = [];
-    split = refl;
-    more = [];
-    begun = refl;
-    stuck = subst (Stuck (Just []) Nothing []) (sym (drop_more text at 0 lt)) (λ u z x a is oz e. go u z a.0 is oz (sym a.1 ∙ e));
-  }
-    where
-      go : (u z more : List ℕ) → u ≡ [] → Opens Nothing z → get_or text at 0 ∷ more ≡ u ++ z → ⊥
-      go u [] more is oz e = omega (arith, ap length (e ∙ ap (λ l. l ++ []) is))
-      go u (b ∷ z) more is oz e = oz
 
 -- the lexeme of a word that is handed out
 module _ {make : Lexeme → Word} {L : List ℕ → Type 0} {G : ℕ → Type 0} {w : List ℕ} {before after : Reader} {r : Word} (t : Taken make L G w before after r) (of : (l : Lexeme) → lexeme_of (make l) ≡ l) {l : Lexeme} (e : l ≡ lexeme_of r) where

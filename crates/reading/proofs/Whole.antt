@@ -1,7 +1,8 @@
 -- From the parts of a file to the file.
-use Rattle.std.proofs.Common.{◌≡◌, ℕ, ◌+◌, ◌≤◌, List, [], ◌∷◌, ◌++◌, length, get_or, take, drop, codes, decimal, sym, refl, ap, ◌∙◌, subst, append_assoc, append-nil, arith, take-append-drop, Bor}
+use Rattle.std.proofs.Common.{◌≡◌, ℕ, ◌+◌, ◌≤◌, List, [], ◌∷◌, ◌++◌, length, get_or, take, drop, codes, decimal, sym, refl, ap, ◌∙◌, subst, append_assoc, append-nil, arith, take-append-drop}
+use Rattle.std.proofs.lemmas.Grind.{common_steps}
 use mathlib.Core.List.{append_cancel_right}
-use Rattle.std.proofs.lemmas.List.{drop_more, drop_all, take_more, length-append}
+use Rattle.std.proofs.lemmas.List.{drop_more, take_more, length-append}
 use Rattle.refusals.specs.declared.refusal.Refusal.{Refusal}
 use Rattle.refusals.specs.declared.refusal.Refusal.TheVariants.{OtherKind}
 use Rattle.refusals.specs.declared.refusal.Section.{Section}
@@ -11,7 +12,6 @@ use Rattle.algebra.specs.Score.{Score, Score.rest}
 use Rattle.grammar.specs.Files.{line, print, Grammatical, signature, ending, print_head, File, GrammaticalHead, IsFile, FirstMisfit, body_offset}
 use Rattle.grammar.specs.Refusals.{Headed, HeadRefused, unsigned, unheaded, Refused, other_kind, misfit}
 use Rattle.grammar.specs.declared.draft.Draft.{Draft}
-use Rattle.grammar.specs.Drafts.{drafted}
 use Rattle.grammar.specs.Items.{items}
 use Rattle.grammar.specs.Described.{ReadAs}
 use Rattle.reading.specs.declared.reader.Reader.{Reader}
@@ -20,28 +20,15 @@ use Rattle.reading.specs.Heads.{LinesTaken}
 use Rattle.reading.specs.Terms.{BodyTaken}
 use Rattle.reading.specs.Languages.{Just, Then, Numeral, KindLine, NumberLine, Head, Body, Tail}
 use Rattle.reading.specs.Passing.{Any, Nothing, NoDigit, Agrees, Passed, Stopped, Faulty, Over, Fault}
-use Rattle.reading.proofs.Composition.{Follows, agrees_self, opens_any, follows_any, follows_just, follows_then, then_stopped, first_stopped, over_then, fault_then, fault_first}
-use Rattle.reading.proofs.Steps.{some_name, just_passed}
+use Rattle.reading.proofs.Composition.{Follows, agrees_self, opens_any, follows_any, follows_just, follows_then, then_stopped, first_stopped, fault_then, fault_first}
+use Rattle.reading.proofs.Steps.{some_name}
 
 -- the contents that a text in parts is printed from
-kind_line_is : (w : List ℕ) (k : KindLine w) → w ≡ line (codes "kind=") k.second.front
-kind_line_is w k = k.split ∙ (λ i. k.first i ++ (k.second.split ∙ ap (λ l. k.second.front ++ l) k.second.second) i)
-
-number_line_is : (key : List ℕ) (limit : ℕ) (w : List ℕ) (n : NumberLine key limit w) → w ≡ line key (decimal n.second.first.0)
-number_line_is key limit w n = n.split ∙ (λ i. n.first i ++ (n.second.split ∙ (λ j. n.second.first.2 j ++ n.second.second j)) i)
-
 head_is : (w : List ℕ) (h : Head w) → w ≡ print_head h.second.first.second.front h.second.second.first.second.first.0 h.second.second.second.second.first.0
-head_is w h =
-    h.split ∙
-    (λ i. h.first i ++ (h.second.split ∙
-    (λ j. kind_line_is _ h.second.first j ++ (h.second.second.split ∙
-    (λ k. number_line_is _ _ _ h.second.second.first k ++ number_line_is _ _ _ h.second.second.second k)) j)) i)
+head_is w h = grind (arith, common_steps)
 
 tail_is : (w : List ℕ) (t : Tail w) → w ≡ codes "body=" ++ (print t.second.first.0 ++ ending)
-tail_is w t =
-    t.split ∙
-    (λ i. t.first i ++ (t.second.split ∙
-    (λ j. t.second.first.2 j ++ (t.second.second.split ∙ (λ k. t.second.second.first k ++ t.second.second.second k) ∙ append-nil ending) j)) i)
+tail_is w t = grind (arith, common_steps)
 
 file_is : (w : List ℕ) → Then Head Tail w → IsFile w
 file_is w f =
@@ -57,13 +44,7 @@ file_is w f =
 
 -- and the parts of what is printed
 line_of : (key w : List ℕ) (M : List ℕ → Type 0) → M w → Then (Just key) (Then M (Just (10 ∷ []))) (line key w)
-line_of key w M is = record {
-  front = key;
-  back = w ++ (10 ∷ []);
-  first = refl;
-  second = record { front = w; back = 10 ∷ []; first = is; second = refl; split = refl };
-  split = refl;
-}
+line_of key w M is = grind (arith, common_steps)
 
 number_line_of : (key : List ℕ) (limit n : ℕ) → n ≤ limit → NumberLine key limit (line key (decimal n))
 number_line_of key limit n le = line_of key (decimal n) (Numeral limit) (n, le, refl)
@@ -102,16 +83,10 @@ head_of kind ticks count l = record {
 }
 
 pub some_ending : Then (Just ending) (Just []) ending
-some_ending = record { front = ending; back = []; first = refl; second = refl; split = sym (append-nil ending) }
+some_ending = grind (arith, common_steps)
 
 tail_of : (t : Score) → Grammatical t → Tail (codes "body=" ++ (print t ++ ending))
-tail_of t l = record {
-  front = codes "body=";
-  back = print t ++ ending;
-  first = refl;
-  second = record { front = print t; back = ending; first = (t, l, refl); second = some_ending; split = refl };
-  split = refl;
-}
+tail_of t l = grind (arith, common_steps)
 
 file_of_lem : (w : List ℕ) → IsFile w → Then Head Tail w
 file_of_lem w f = record {
@@ -175,10 +150,10 @@ lines_refused text a small p e h =
 
 -- offsets by what stands before
 pub behind_two : (a b c : List ℕ) (i j k : ℕ) → i ≡ 0 + length a → j ≡ i + length b → k ≡ j + length c → k ≡ length (a ++ (b ++ c))
-behind_two a b c i j k p q r = omega (arith, length-append a (b ++ c), length-append b c)
+behind_two a b c i j k p q r = grind (arith, common_steps)
 
 pub behind_three : (a b c d : List ℕ) (i j k l : ℕ) → i ≡ 0 + length a → j ≡ i + length b → k ≡ j + length c → l ≡ k + length d → l ≡ length (a ++ (b ++ (c ++ d)))
-behind_three a b c d i j k l p q r s = omega (arith, length-append a (b ++ (c ++ d)), length-append b (c ++ d), length-append c d)
+behind_three a b c d i j k l p q r s = grind (arith, common_steps)
 
 -- the parts behind the head
 ending_follows : Follows NoDigit (Then (Just ending) (Just []))
@@ -197,21 +172,21 @@ pub tail_4 : {v w x : List ℕ} {s t u y : Reader} {e : Refusal} → Over (Just 
 tail_4 p q r h = fault_then (follows_any _) p (fault_then ending_follows q (fault_then (follows_any _) r h))
 
 pub tail_split : {v w x : List ℕ} {s t u y : Reader} → Over (Just (codes "body=")) Any v s t → Over Body NoDigit w t u → Over (Just ending) Any x u y → y.at ≡ length y.text.now → drop s.at s.text.now ≡ v ++ (w ++ x)
-tail_split {v} {w} {x} {s} {t} {u} {y} p q r e =
-    let whole = over_then {H = Any} (follows_any _) p (over_then {H = Any} (follows_any _) (record { text = q.text; section = q.section; passed = just_passed q.passed }) r) in
-    let none : drop y.at s.text.now ≡ [] = drop_all y.at s.text.now (omega (arith, ap (λ (k : Bor (List ℕ)). length k.now) whole.text)) in
-    whole.passed.split ∙ ap (λ l. (v ++ (w ++ x)) ++ l) none ∙ append-nil (v ++ (w ++ x))
+tail_split {v} {w} {x} {s} {t} {u} {y} p q r e = grind (arith, common_steps)
 
 -- a text whose head is read
 module _ (text : List ℕ) (h : lines.Lines) (taken : LinesTaken text h) where
+  passed : Passed Head Any (print_head h.kind.bytes.now h.head.ticks.value h.head.count.value) text 0 h.end
+  passed = record { moved = omega (arith, taken.end_at); within = taken.inside; is = head_of _ _ _ taken.within; split = taken.split; sure = taken.sure }
+
   abbrev pub headed : Headed text
   headed = record {
     kind = h.kind.bytes.now;
-    ticks = h.ticks.value;
-    count = h.count.value;
+    ticks = h.head.ticks.value;
+    count = h.head.count.value;
     rest = drop h.end text;
     within = taken.within;
-    split = taken.passed.split;
+    split = taken.split;
   }
 
   pub kind_refused : (kind : List ℕ) → (h.kind.bytes.now ≡ kind → ⊥) → Refused kind text (OtherKind h.kind.offset)
@@ -219,18 +194,18 @@ module _ (text : List ℕ) (h : lines.Lines) (taken : LinesTaken text h) where
 
   pub tail_refused : (kind : List ℕ) → h.kind.bytes.now ≡ kind → (e : Refusal) → Faulty Tail Nothing text h.end section.Body e → Refused kind text e
   tail_refused kind same e f =
-      subst (Refused kind text) (sym f.is) (misfit f.offset taken.small headed same (file_misfit text f.offset (then_stopped (follows_any _) taken.passed f.stopped)))
+      subst (Refused kind text) (sym f.is) (misfit f.offset taken.small headed same (file_misfit text f.offset (then_stopped (follows_any _) passed f.stopped)))
 
-  pub read_as : (kind : List ℕ) → h.kind.bytes.now ≡ kind → (d d' : Draft) → drafted d ≡ [] → BodyTaken text h.end d d' → ReadAs kind text (record { ticks = h.ticks; count = h.count }) (drafted d')
+  pub read_as : (kind : List ℕ) → h.kind.bytes.now ≡ kind → (d d' : Draft) → d ≡ [] → BodyTaken text h.end d d' → ReadAs kind text h.head d'
   read_as kind same d d' empty body =
-      let f : File = record { kind = h.kind.bytes.now; ticks = h.ticks.value; count = h.count.value; body = body.term } in
-      let head = print_head h.kind.bytes.now h.ticks.value h.count.value in
-      let at : h.end + 5 ≡ body_offset f = ap (λ n. n + 5) taken.passed.moved ∙ omega (arith, length-append head (codes "body=")) in
+      let f : File = record { kind = h.kind.bytes.now; ticks = h.head.ticks.value; count = h.head.count.value; body = body.term } in
+      let head = print_head h.kind.bytes.now h.head.ticks.value h.head.count.value in
+      let at : h.end + 5 ≡ body_offset f = omega (arith, taken.end_at, length-append head (codes "body=")) in
       record {
         file = f;
         small = taken.small;
         kind_is = same;
-        printed = taken.passed.split ∙ ap (λ l. head ++ l) body.split;
+        printed = taken.split ∙ ap (λ l. head ++ l) body.split;
         describes = record {
           within = record { head = taken.within; body = body.grammatical };
           ticks = refl;

@@ -8,7 +8,6 @@ use Rattle.algebra.specs.Score.{Score}
 use Rattle.grammar.specs.declared.draft.Draft.{Draft}
 use Rattle.grammar.specs.Files.{field, fields, print, Grammatical, ending}
 use Rattle.grammar.specs.Items.{items}
-use Rattle.grammar.specs.Drafts.{drafted}
 use Rattle.reading.specs.declared.reader.Reader.{Reader}
 use Rattle.reading.specs.Languages.{Field, Fields, Sign, Body, Inside}
 use Rattle.reading.specs.Passing.{Any, NoDigit, Over}
@@ -33,7 +32,7 @@ pub record TermTaken (before after : Reader) (draft draft' : Draft) : Type 0 whe
   pub term : Score
   pub grammatical : Grammatical term
   pub over : Over Body NoDigit (print term) before after
-  pub drafted : drafted draft' ≡ take 1024 (drafted draft ++ items before.at term)
+  pub drafted : draft' ≡ take 1024 (draft ++ items before.at term)
 
 -- what follows the parenthesis of a pair, which stands at an offset
 pub record PairTaken (offset : ℕ) (before after : Reader) (draft draft' : Draft) : Type 0 where
@@ -42,11 +41,11 @@ pub record PairTaken (offset : ℕ) (before after : Reader) (draft draft' : Draf
   pub inside : List ℕ
   pub printed : print term ≡ 40 ∷ inside
   pub over : Over Inside Any inside before after
-  pub drafted : drafted draft' ≡ take 1024 (drafted draft ++ items offset term)
+  pub drafted : draft' ≡ take 1024 (draft ++ items offset term)
 
 -- the rest of a text from an offset on: a body, whose nodes are put behind those of the draft, and the last line
 pub record BodyTaken (text : List ℕ) (at : ℕ) (draft draft' : Draft) : Type 0 where
   pub term : Score
   pub grammatical : Grammatical term
   pub split : drop at text ≡ codes "body=" ++ (print term ++ ending)
-  pub drafted : drafted draft' ≡ take 1024 (drafted draft ++ items (at + 5) term)
+  pub drafted : draft' ≡ take 1024 (draft ++ items (at + 5) term)

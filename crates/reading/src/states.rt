@@ -1,15 +1,10 @@
 // The states of a reading: fresh, and headed.
-ghost use Rattle.std.specs.Prelude.{◌≡◌, MatchResult};
-ghost use Rattle.grammar.specs.Described.{ReadAs};
-ghost use Rattle.grammar.specs.Drafts.{drafted};
-ghost use Rattle.grammar.specs.Refusals.{HeadRefused, Refused};
-ghost use Rattle.reading.specs.Readings.{HeadedAs};
+ghost use Rattle.std.proofs.Props.{props};
+ghost use Rattle.reading.specs.Heads.{LinesTaken};
 
-use crate::reader::Reader;
 use crate::reader::head::Lines;
-use grammar::draft::Draft;
-use grammar::head::Head;
-use refusals::refusal::Refusal;
+
+mod calls;
 
 // A reading that has read nothing yet.
 #[derive(Drop)]
@@ -21,54 +16,6 @@ pub struct FreshReading<'a> {
 #[derive(Drop)]
 pub struct HeadedReading<'a> {
     text: &'a [u8],
-    kind: &'a [u8],
-    ticks: u32,
-    count: u32,
-}
-
-impl<'a> FreshReading<'a> {
-    // A reading of a text.
-    pub fn new(text: &'a [u8]) -> Self
-        ensures { result.text ≡ text.entry }
-    {
-        FreshReading { text }
-    }
-
-    // Reads the head.
-    pub fn read_head(self) -> Result<HeadedReading<'a>, Refusal>
-        ensures { MatchResult result (λ h. (h.text ≡ self.entry.text) × HeadedAs self.entry.text.now h) (λ e. HeadRefused self.entry.text.now e) }
-    {
-        let lines = Lines::read(self.text)?;
-        Ok(HeadedReading {
-            text: self.text,
-            kind: lines.kind.bytes,
-            ticks: lines.ticks.value,
-            count: lines.count.value,
-        })
-    }
-}
-
-impl<'a> HeadedReading<'a> {
-    // The kind's name, the length and the count of primitives, as the head says them.
-    pub fn tell(&self) -> (&'a [u8], u32, u32)
-        ensures { (result.0 ≡ self.now.kind) × ((result.1 ≡ self.now.ticks) × (result.2 ≡ self.now.count)) }
-    {
-        (self.kind, self.ticks, self.count)
-    }
-
-    // Reads the whole text as a file of a kind: the two numbers of its head, and the nodes of its term in the draft.
-    pub fn read(self, kind: &[u8], draft: &mut Draft) -> Result<Head, Refusal>
-        ensures { MatchResult result (λ head. ReadAs kind.now self.entry.text.now head (drafted draft.new)) (λ e. Refused kind.now self.entry.text.now e) }
-    {
-        let lines = Lines::read(self.text)?;
-        if lines.kind.bytes != kind {
-            return Err(Refusal::OtherKind(lines.kind.offset));
-        }
-        draft.clear();
-        Reader::body(self.text, lines.end, draft)?;
-        Ok(Head {
-            ticks: lines.ticks,
-            count: lines.count,
-        })
-    }
+    lines: Lines<'a>,
+    ghost headed: { LinesTaken text.now lines } by { Prim.hlevel props },
 }

@@ -11,7 +11,7 @@ use nodes::list::NodeList;
 
 impl<'a, K: Kind> Piece<'a, K> {
     // Puts the score that a piece stands for behind the nodes of a list.
-    fn write_into(&self, out: &mut NodeList<K>)
+    fn write_into(&self, out: &mut NodeList<'_, K>)
         requires { length out.old + nodes (piece_score self.now) ≤ 1023 }
         ensures { out.new ≡ out.old ++ preorder (piece_score self.now) }
     {
@@ -24,7 +24,7 @@ impl<'a, K: Kind> Piece<'a, K> {
 
 impl<'a, K: Kind> Pieces<'a, K> {
     // Puts the score that one piece or two stand for behind the nodes of a list.
-    fn write_into(&self, out: &mut NodeList<K>)
+    fn write_into(&self, out: &mut NodeList<'_, K>)
         requires { length out.old + nodes (pieces_score self.now) ≤ 1023 }
         ensures { out.new ≡ out.old ++ preorder (pieces_score self.now) }
     {
@@ -41,7 +41,7 @@ impl<'a, K: Kind> Pieces<'a, K> {
 
 impl<'a, K: Kind> Plan<'a, K> {
     // Puts the score that a plan stands for behind the nodes of a list.
-    pub fn write_into(&self, out: &mut NodeList<K>)
+    pub fn write_into(&self, out: &mut NodeList<'_, K>)
         requires { length out.old + nodes (plan_score self.now) ≤ 1023 }
         ensures { out.new ≡ out.old ++ preorder (plan_score self.now) }
     {

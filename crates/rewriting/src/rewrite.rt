@@ -17,7 +17,7 @@ pub fn rewrite_into<K: Kind>(
     score: &Score<'_, K>,
     node: u32,
     step: Step,
-    out: &mut NodeList<K>,
+    out: &mut NodeList<'_, K>,
 ) -> Result<(), Refusal>
     requires inside { node < nodes score.now }
     requires empty { out.old ≡ [] }

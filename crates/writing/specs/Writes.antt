@@ -1,14 +1,7 @@
 -- What writing a score's file answers, and what the buffer holds then.
 use Rattle.std.specs.Prelude.{ℕ, cond, List, ◌++◌, length, drop, Ok, Err, Result, nat_le}
-use Rattle.algebra.specs.Kind.{KindModel}
-use Rattle.algebra.specs.Score.{Score}
-use Rattle.grammar.specs.Files.{File}
 use Rattle.refusals.specs.declared.refusal.Refusal.{Refusal}
 use Rattle.refusals.specs.declared.refusal.Refusal.TheVariants.{ShortBuffer}
-
--- A file of a score, with a length and a count in its head.
-abbrev pub headed : KindModel → ℕ → ℕ → Score → File
-headed K ticks count s = record { kind = K.name; ticks = ticks; count = count; body = s }
 
 -- How many bytes were written, where there is room for them; else how many there would be.
 abbrev pub written_answer : List ℕ → ℕ → Result ℕ Refusal

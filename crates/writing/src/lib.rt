@@ -1,7 +1,6 @@
-// The bytes of a held score's file, in the caller's buffer.
+// The bytes of a score's file, in the caller's buffer.
 #![tactic(auto)]
 
+mod bytes;
 pub mod file;
-mod lines;
-mod put;
 mod term;

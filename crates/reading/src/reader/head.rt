@@ -3,18 +3,18 @@ ghost use Rattle.std.specs.Result.{MatchResult};
 ghost use Rattle.grammar.specs.Refusals.{HeadRefused};
 ghost use Rattle.reading.specs.Heads.{LinesTaken};
 
-use crate::reader::{LONGEST, MOST_BYTES, MOST_PRIMITIVES, Reader};
+use crate::reader::Reader;
 use crate::word::Lexeme;
-use grammar::head::Figure;
-use grammar::lines::{COUNT, LENGTH, SIGNATURE};
+use algebra::limits::{LONGEST, MOST_PRIMITIVES};
+use grammar::head::Head;
+use grammar::lines::{COUNT, LENGTH, MOST_BYTES, SIGNATURE};
 use refusals::refusal::{Refusal, Section};
 
 // What the lines before the body say, and where the body begins.
 #[derive(Clone, Copy)]
 pub struct Lines<'a> {
     pub kind: Lexeme<'a>,
-    pub ticks: Figure,
-    pub count: Figure,
+    pub head: Head,
     pub end: usize,
 }
 
@@ -35,11 +35,10 @@ impl<'a> Lines<'a> {
         reader.section = Section::Head;
         let kind = reader.kind_line()?;
         let ticks = reader.number_line(LENGTH, LONGEST)?;
-        let count = reader.number_line(COUNT, MOST_PRIMITIVES)?;
+        let count = reader.number_line(COUNT, MOST_PRIMITIVES as u32)?;
         Ok(Lines {
             kind,
-            ticks,
-            count,
+            head: Head { ticks, count },
             end: reader.at,
         })
     }

@@ -1,5 +1,6 @@
 // Takes words from a text. No other function looks at the text.
-ghost use Rattle.std.specs.Prelude.{◌≡◌, ◌≤◌, [], length, MatchResult};
+ghost use Rattle.std.specs.Prelude.{◌≡◌, ℕ, ◌+◌, ◌<◌, ◌≤◌, [], length, true, false, slice_index, MatchResult};
+ghost use Rattle.std.specs.Fn.{FnReturnsAt};
 ghost use Rattle.algebra.specs.Kind.{Name};
 ghost use Rattle.reading.specs.Languages.{Just};
 ghost use Rattle.reading.specs.Passing.{Any, Nothing, NoLetter, Fault};
@@ -33,11 +34,12 @@ impl<'a> Reader<'a> {
         ensures { MatchResult result (λ w. MarkTaken wanted.now self.old self.new w) (λ e. NoMark wanted.now self.old e) }
     {
         let start = self.at;
-        if start < self.text.len() && wanted.contains(&self.text[start]) {
-            self.at = start + 1;
-            Ok(Word::Mark(self.since(start)))
-        } else {
-            Err(self.misfit())
+        match self.text.get(start) {
+            Some(byte) if wanted.contains(byte) => {
+                self.at = start + 1;
+                Ok(Word::Mark(self.since(start)))
+            }
+            _ => Err(self.misfit()),
         }
     }
 
@@ -52,16 +54,27 @@ impl<'a> Reader<'a> {
         Ok(Word::Key(self.since(start)))
     }
 
+    // How many of the bytes that come next pass a test, up to a number of them.
+    fn run_length<F: Fn(&u8) -> bool>(&self, most: usize, test: F) -> usize
+        requires { F.IsAlwaysCallable test }
+        ensures few { result ≤ most }
+        ensures within { self.now.at + result ≤ length self.now.text.now }
+        ensures passes { (k : ℕ) → k < result → FnReturnsAt F.Fn test (slice_index self.now.text.now (self.now.at + k)) true }
+        ensures ends { result < most → self.now.at + result < length self.now.text.now → FnReturnsAt F.Fn test (slice_index self.now.text.now (self.now.at + result)) false }
+    {
+        self.text[self.at..]
+            .iter()
+            .take(most)
+            .take_while(|b| test(b))
+            .count()
+    }
+
     // The digits that come next, as many as there are.
     pub fn digits(&mut self) -> Word<'a>
         ensures { DigitsTaken self.old self.new result }
     {
         let start = self.at;
-        let mut end = start;
-        while end < self.text.len() && self.text[end].is_ascii_digit() {
-            end += 1;
-        }
-        self.at = end;
+        self.at += self.run_length(usize::MAX, u8::is_ascii_digit);
         Word::Digits(self.since(start))
     }
 
@@ -69,15 +82,12 @@ impl<'a> Reader<'a> {
     pub fn name(&mut self) -> Result<Word<'a>, Refusal>
         ensures { MatchResult result (λ w. NameTaken self.old self.new w) (λ e. Fault Name NoLetter self.old e) }
     {
-        let start = self.at;
-        let mut end = start;
-        while end < self.text.len() && end - start < 8 && self.text[end].is_ascii_lowercase() {
-            end += 1;
-        }
-        if end == start {
+        let length = self.run_length(8, u8::is_ascii_lowercase);
+        if length == 0 {
             return Err(self.misfit());
         }
-        self.at = end;
+        let start = self.at;
+        self.at += length;
         Ok(Word::Name(self.since(start)))
     }
 
@@ -85,9 +95,9 @@ impl<'a> Reader<'a> {
     pub fn end(&self) -> Result<(), Refusal>
         ensures { MatchResult result (λ _. self.now.at ≡ length self.now.text.now) (λ e. Fault (Just []) Nothing self.now e) }
     {
-        if self.at < self.text.len() {
-            return Err(self.misfit());
+        match self.text.get(self.at) {
+            Some(_) => Err(self.misfit()),
+            None => Ok(()),
         }
-        Ok(())
     }
 }

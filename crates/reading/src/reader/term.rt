@@ -4,7 +4,8 @@ ghost use Rattle.reading.specs.Languages.{Body, Field, Fields, Sign, Inside};
 ghost use Rattle.reading.specs.Passing.{Any, NoDigit, Fault};
 ghost use Rattle.reading.specs.Terms.{FieldTaken, FieldsTaken, SignTaken, TermTaken, PairTaken};
 
-use crate::reader::{LONGEST, Reader};
+use crate::reader::Reader;
+use algebra::limits::LONGEST;
 use algebra::node::Node;
 use algebra::numbers::Numbers;
 use grammar::draft::Draft;

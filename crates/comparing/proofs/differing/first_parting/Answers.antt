@@ -1,50 +1,32 @@
-use Rattle.std.proofs.Common.{◌≤◌, length, sym, ap, ◌∙◌, arith}
-use Rattle.std.proofs.ByRecursion.{All-get_or}
-use Rattle.algebra.specs.Kind.{LegalNumbers}
-use Rattle.comparing.specs.Comparisons.{lesser_of}
-use Rattle.comparing.proofs.Loops.{parting_step, parting_left, parting_right, parting_none}
+use Rattle.std.proofs.Common.{◌≡◌, drop, sym, ap, ◌∙◌, arith, rules}
+use Rattle.std.specs.Iterator.Adapters.{zip_first, zip_second}
+use Rattle.std.specs.List.{slice_get}
+use Rattle.std.specs.Option.{option_or, option_copied}
+use Rattle.std.specs.Slice.Iter.{iter_rest}
+use Rattle.std.proofs.lemmas.Grind.{common_steps}
+use Rattle.std.proofs.lemmas.Option.{gets}
+use Rattle.std.proofs.lemmas.Slice.Zip.{zip_end, Zip-so_far}
+use Rattle.normal.specs.Placing.{all_placed}
+use Rattle.comparing.specs.Comparisons.{found, parting}
+use Rattle.comparing.proofs.Ends.{copied_or, ended}
 use Rattle.comparing.proofs.differing.first_parting.Goals as goal
-use Rattle.comparing.proofs.differing.first_parting.Goals.{then-loop-at-test+else-at-second, else-loop-at-test}
 
-pub returns-in-Less : goal.returns-in-Less
-returns-in-Less g c =
+pub returns : goal.returns
+returns g c =
     let K = g.K.Kind.model in
-    let xs = c.args.first.now in
-    let ys = c.args.second.now in
-    let at = c.loop-at.at in
-    let ordered = c.in-Less.ensures.legal (All-get_or (λ x. LegalNumbers K x.numbers) xs at _ (omega arith) c.requires.first_legal) (All-get_or (λ x. LegalNumbers K x.numbers) ys at _ (omega arith) c.requires.second_legal) in
-    ap (lesser_of _ _ _) ordered ∙ sym (parting_step K xs ys at _ (omega arith) (omega arith)) ∙ c.loop-at.invariant.2
-
-pub loop-at-preserved : goal.loop-at-preserved
-loop-at-preserved g c =
-    let K = g.K.Kind.model in
-    let xs = c.args.first.now in
-    let ys = c.args.second.now in
-    let at = c.loop-at.at in
-    let ordered = c.in-Equal.ensures.legal (All-get_or (λ x. LegalNumbers K x.numbers) xs at _ (omega arith) c.requires.first_legal) (All-get_or (λ x. LegalNumbers K x.numbers) ys at _ (omega arith) c.requires.second_legal) in
-    (omega arith, omega arith, ap (lesser_of _ _ _) ordered ∙ sym (parting_step K xs ys at _ (omega arith) (omega arith)) ∙ c.loop-at.invariant.2)
-
-pub returns-in-Greater : goal.returns-in-Greater
-returns-in-Greater g c =
-    let K = g.K.Kind.model in
-    let xs = c.args.first.now in
-    let ys = c.args.second.now in
-    let at = c.loop-at.at in
-    let ordered = c.in-Greater.ensures.legal (All-get_or (λ x. LegalNumbers K x.numbers) xs at _ (omega arith) c.requires.first_legal) (All-get_or (λ x. LegalNumbers K x.numbers) ys at _ (omega arith) c.requires.second_legal) in
-    ap (lesser_of _ _ _) ordered ∙ sym (parting_step K xs ys at _ (omega arith) (omega arith)) ∙ c.loop-at.invariant.2
-
-pub returns-then-at-first : goal.returns-then-at-first
-returns-then-at-first g c =
-    let past : length c.args.second.now ≤ c.loop-at.at = elim c.loop-at-test.branch [
-      | then-loop-at-test+else-at-second w ↦ w.if-at-second.false
-      | else-loop-at-test w ↦ absurd (omega (arith, w.loop-at-test.false))
-    ] in
-    sym (parting_left g.K.Kind.model c.args.first.now c.args.second.now c.loop-at.at _ c.if-at-first.true past) ∙ c.loop-at.invariant.2
-
-pub returns-then-at-second-2 : goal.returns-then-at-second-2
-returns-then-at-second-2 g c =
-    sym (parting_right g.K.Kind.model c.args.first.now c.args.second.now c.loop-at.at _ c.if-at-first.false c.if-at-second-2.true) ∙ c.loop-at.invariant.2
-
-pub returns-else-at-second-2 : goal.returns-else-at-second-2
-returns-else-at-second-2 g c =
-    sym (parting_none g.K.Kind.model c.args.first.now c.args.second.now c.loop-at.at c.if-at-first.false c.if-at-second-2.false) ∙ c.loop-at.invariant.2
+    let left = c.items-left.result.now in
+    let right = c.items-right.result.now in
+    let n = c.min-shared.result in
+    let s = c.into_iter-x-iterator.result in
+    let t = c.loop-x.x-iterator in
+    let first : iter_rest (zip_first s) ≡ left = search rules in
+    let second : iter_rest (zip_second s) ≡ right = search rules in
+    let so_far = Zip-so_far c.loop-x.yielded s t c.loop-x.yielded_by in
+    let long = zip_end left right c.loop-x.yielded s t c.next.new.self c.next.result first second c.loop-x.yielded_by c.in-None.is c.next.ensures.steps in
+    let same = long ∙ sym c.min-shared.ensures in
+    let a : option_copied c.get.result ≡ slice_get left n = grind (arith, common_steps, gets) in
+    let b : option_copied c.get-2.result ≡ slice_get right n = grind (arith, common_steps, gets) in
+    let there = ap found (c.copied.ensures ∙ ap option_copied c.or.ensures ∙ copied_or c.get.result c.get-2.result ∙ (λ i. option_or (a i) (b i))) in
+    let x = so_far.0 ∙ (λ i. drop (same i) (first i)) in
+    let y = so_far.1 ∙ (λ i. drop (same i) (second i)) in
+    there ∙ ended K n left right c.min-shared.ensures ∙ (λ i. parting K (all_placed (sym x i)) (all_placed (sym y i))) ∙ c.loop-x.invariant.same

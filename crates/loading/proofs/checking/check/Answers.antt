@@ -27,22 +27,22 @@ bounds-items-0 g c =
     let (f, d) = c.requires in
     some_item g.K.Kind.model f c.args.head c.args.items.now d _ c.in_ok-primitives.ensures
 
-pub returns-then-length-gt-LENGTH : goal.returns-then-length-gt-LENGTH
-returns-then-length-gt-LENGTH g c f d =
+pub returns-then-length-gt-LONGEST : goal.returns-then-length-gt-LONGEST
+returns-then-length-gt-LONGEST g c f d =
     too_long g.K.Kind.model f c.args.head c.args.items.now d _ c.in_ok-primitives.ensures c.in_ok-check_legal.ensures _ c.measure-length.ensures
-    c.if-length-gt-LENGTH.true
+    c.if-length-gt-LONGEST.true
 
 pub returns-then-head-length : goal.returns-then-head-length
 returns-then-head-length g c f d =
     untrue_ticks g.K.Kind.model f c.args.head c.args.items.now d _ c.in_ok-primitives.ensures c.in_ok-check_legal.ensures _ c.measure-length.ensures
-    c.if-length-gt-LENGTH.false c.if-head-length.true
+    c.if-length-gt-LONGEST.false c.if-head-length.true
 
 pub returns-then-head-primitives : goal.returns-then-head-primitives
 returns-then-head-primitives g c f d =
     untrue_count g.K.Kind.model f c.args.head c.args.items.now d _ c.in_ok-primitives.ensures c.in_ok-check_legal.ensures _ c.measure-length.ensures
-    c.if-length-gt-LENGTH.false c.if-head-length.false c.if-head-primitives.true
+    c.if-length-gt-LONGEST.false c.if-head-length.false c.if-head-primitives.true
 
 pub returns : goal.returns
 returns g c f d =
     accepted g.K.Kind.model f c.args.head c.args.items.now d _ c.in_ok-primitives.ensures c.in_ok-check_legal.ensures _ c.measure-length.ensures
-    c.if-length-gt-LENGTH.false c.if-head-length.false c.if-head-primitives.false
+    c.if-length-gt-LONGEST.false c.if-head-length.false c.if-head-primitives.false

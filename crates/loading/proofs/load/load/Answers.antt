@@ -13,6 +13,6 @@ returns g c =
     let K = g.K.Kind.model in
     let text = c.args.reading.text.now in
     let head = c.in_ok-head.head in
-    let d = subst (ReadAs c.as_bytes.result.now text head) (sym c.items.ensures) c.in_ok-head.ensures in
-    subst (λ is. Gives K text is c.check.result) c.items.ensures
+    let d = subst (ReadAs c.as_bytes.result.now text head) (sym c.items.ensures.same) c.in_ok-head.ensures in
+    subst (λ is. Gives K text is c.check.result) c.items.ensures.same
     (gives_checked K text _ (c.as_bytes.ensures.value ∙ c.name-name.ensures) head c.items.result.now d c.check.result (c.check.ensures d.file d.describes))

@@ -38,17 +38,15 @@ extend-requires-2 g c =
     let long = nodes_long g.K.Kind.numbers_of row c.args.score.now c.nodes-nodes.ensures.nodes in
     let start = put_long c.args.out.now (view g.K.Kind.numbers_of (take c.args.node row)) c.extend.ensures in
     let middle = put_long c.extend.new.self (preorder (plan_score c.in_ok-plan.plan)) c.write_into.ensures in
-    let after = c.args.node + c.count.result in (
-      search rules,
-      omega (
-        arith,
-        ap length c.requires.empty,
-        length-map (take c.args.node row) (seen g.K.Kind.numbers_of),
-        length-take-le c.args.node row (omega arith),
-        length_preorder (plan_score c.in_ok-plan.plan),
-        length-take (length row - after) (drop after row),
-        length-drop after row,
-      ),
+    let after = c.args.node + c.count.result in
+    omega (
+      arith,
+      ap length c.requires.empty,
+      length-map (take c.args.node row) (seen g.K.Kind.numbers_of),
+      length-take-le c.args.node row (omega arith),
+      length_preorder (plan_score c.in_ok-plan.plan),
+      length-take (length row - after) (drop after row),
+      length-drop after row,
     )
 
 pub returns : goal.returns

@@ -1,18 +1,18 @@
-use Rattle.std.proofs.Common.{refl, arith}
+use Rattle.std.proofs.Common.{◌≡◌, ◌++◌, ◌∷◌, [], length, refl, ap, ◌∙◌, arith}
+use Rattle.algebra.specs.declared.node.Node.TheVariants.{Rest}
 use Rattle.algebra.specs.Score.{Score.rest}
-use Rattle.rack.proofs.Shelves.{segment_within}
-use Rattle.rack.proofs.Placing.{score_sound, score_holds}
+use Rattle.rack.proofs.Room.{fewer_bytes}
+use Rattle.rack.proofs.Shelves.{length_shelf}
 use Rattle.rack.proofs.rack.Rack.put_rest.Goals as goal
 
-pub put-requires : goal.put-requires
-put-requires g c = omega (arith, segment_within c.args.self.now.row.nodes.now c.args.to c.requires.known)
+pub whole_as_slice-over : goal.whole_as_slice-over
+whole_as_slice-over g c =
+    fewer_bytes c.self.inside.nodes.now c.args.to _ _ (omega (arith, c.requires.known, ap length c.self.view_is, length_shelf g.K.Kind.numbers_of c.self.inside.nodes.now c.self.inside.places)) c.self.ranges.0.0.1.1
 
-pub invariant_of-self : goal.invariant_of-self
-invariant_of-self g c =
-    score_sound g.K.Kind.model g.K.Kind.numbers_of c.args.self.now _ c.args.to (rest c.args.ticks) _ c.requires.known
-    c.put.ensures (record { few_nodes = omega arith; few_primitives = omega arith; short = c.requires.short }) refl
-
-pub returns : goal.returns
-returns g c =
-    score_holds g.K.Kind.model g.K.Kind.numbers_of c.args.self.now _ c.args.to (rest c.args.ticks) _ c.requires.known
-    c.put.ensures (record { few_nodes = omega arith; few_primitives = omega arith; short = c.requires.short }) refl
+pub put-requires-clause-ready : goal.put-requires-clause-ready
+put-requires-clause-ready g c =
+    (rest c.args.ticks, record {
+      nodes = c.push.ensures ∙ ap (λ l. l ++ (Rest c.args.ticks ∷ [])) c.over-nodes.ensures;
+      size_is = refl;
+      fits = record { few_nodes = omega arith; few_primitives = omega arith; short = c.requires.short };
+    })

@@ -1,21 +1,16 @@
-use Rattle.std.proofs.Common.{◌<◌, sym, arith}
-use Rattle.algebra.specs.Layout.{view}
-use Rattle.rack.specs.Places.{number, place_at}
-use Rattle.rack.specs.Shelves.{shelf_of}
-use Rattle.rack.proofs.Shelves.{vacant_yes, vacant_no, at_empty, at_full, number_view}
+use Rattle.std.proofs.Common.{sym, ap, ◌∙◌}
+use Rattle.rack.specs.Shelves.{at}
+use Rattle.rack.proofs.Shelves.{at_empty, at_full, vacant_yes, vacant_no}
 use Rattle.rack.proofs.rack.Rack.vacant.Goals as goal
 
-pub returns-then-self-place-ne0 : goal.returns-then-self-place-ne0
-returns-then-self-place-ne0 g c =
-    let rack = c.args.self.now in
-    let xs = view g.K.Kind.numbers_of rack.row.nodes.now in
-    let h : c.args.place < number xs = omega (arith, number_view g.K.Kind.numbers_of rack.row.nodes.now, c.requires) in
-    let full : 0 < (place_at rack.places c.args.place).nodes = omega (arith, c.if-self-place-ne0.true) in
-    record { answer = sym (vacant_no (shelf_of xs rack.places) c.args.place _ (at_full xs rack.places c.args.place h full)); empty = tt }
+pub returns-in-Some : goal.returns-in-Some
+returns-in-Some g c =
+    let p = c.args.place in
+    let noted = sym c.note_at.ensures ∙ c.in-Some.is in
+    let n = c.self.invariant.true p c.in-Some.field-0 noted in
+    sym (vacant_no c.args.self.now p n.score (ap (λ l. at l p) (sym c.self.view_is) ∙ at_full g.K.Kind.numbers_of c.self.inside.nodes.now c.self.inside.places g.K.Kind.model p c.in-Some.field-0 noted n))
 
-pub returns : goal.returns
-returns g c =
-    let rack = c.args.self.now in
-    let xs = view g.K.Kind.numbers_of rack.row.nodes.now in
-    let h : c.args.place < number xs = omega (arith, number_view g.K.Kind.numbers_of rack.row.nodes.now, c.requires) in
-    record { answer = sym (vacant_yes (shelf_of xs rack.places) c.args.place (at_empty xs rack.places c.args.place h c.if-self-place-ne0.false)); empty = c.if-self-place-ne0.false }
+pub returns-in-None : goal.returns-in-None
+returns-in-None g c =
+    let p = c.args.place in
+    sym (vacant_yes c.args.self.now p (ap (λ l. at l p) (sym c.self.view_is) ∙ at_empty g.K.Kind.numbers_of c.self.inside.nodes.now c.self.inside.places p (sym c.note_at.ensures ∙ c.in-None.is)))

@@ -1,58 +1,49 @@
-use Rattle.std.proofs.Common.{◌++◌, take, sym, ap, ◌∙◌, subst, arith}
+use Rattle.std.proofs.Common.{rules, ◌++◌, take, sym, ap, ◌∙◌, subst, arith}
 use Rattle.std.proofs.lemmas.Result.{MatchResult-weaker}
 use Rattle.algebra.specs.Score.{Score.rest, Score.primitive}
 use Rattle.grammar.specs.Items.{items}
-use Rattle.grammar.specs.Drafts.{drafted, with_node}
+use Rattle.grammar.specs.Drafts.{with_node}
 use Rattle.reading.specs.Languages.{Body}
 use Rattle.reading.specs.Passing.{NoDigit, Over}
-use Rattle.reading.proofs.Composition.{refused_up}
 use Rattle.reading.proofs.Leaves.{only_mark, mark_byte, mark_offset}
 use Rattle.reading.proofs.Pairs.{sign_over, pair_taken}
 use Rattle.reading.proofs.Scores.{inside_1, inside_2, inside_3, inside_4, rest_over, rest_fault, primitive_over, primitive_fault, pair_over, pair_fault, first_third, no_term}
 use Rattle.reading.proofs.reader.Reader.+pair_term.Goals as goal
 
 pub pair-returns-in_err-term : goal.pair-returns-in_err-term
-pair-returns-in_err-term t c =
-    refused_up _ _ c.from_residual.result _ c.from_residual.ensures.1 (inside_1 c.args.self.now c.in_err-term.ensures)
+pair-returns-in_err-term t c = search (rules, inside_1 c.args.self.now c.in_err-term.ensures)
 
 pub pair-returns-in_err-node : goal.pair-returns-in_err-node
-pair-returns-in_err-node t c =
-    refused_up _ _ c.from_residual-in_err-node.result _ c.from_residual-in_err-node.ensures.1
-    (inside_2 c.in_ok-term.ensures.over c.in_err-node.ensures)
+pair-returns-in_err-node t c = search (rules, inside_2 c.in_ok-term.ensures.over c.in_err-node.ensures)
 
 pub pair-returns-in_err-term-2 : goal.pair-returns-in_err-term-2
 pair-returns-in_err-term-2 t c =
-    refused_up _ _ c.from_residual-in_err-term-2.result _ c.from_residual-in_err-term-2.ensures.1
-    (inside_3 c.in_ok-term.ensures.over (sign_over c.in_ok-node.ensures).1 c.in_err-term-2.ensures)
+    search (rules, inside_3 c.in_ok-term.ensures.over (sign_over c.in_ok-node.ensures).1 c.in_err-term-2.ensures)
 
 pub pair-returns-in_err-mark : goal.pair-returns-in_err-mark
 pair-returns-in_err-mark t c =
-    refused_up _ _ c.from_residual-in_err-mark.result _ c.from_residual-in_err-mark.ensures.1
-    (inside_4 c.in_ok-term.ensures.over (sign_over c.in_ok-node.ensures).1 c.in_ok-term-2.ensures.over c.in_err-mark.ensures)
+    search (rules, inside_4 c.in_ok-term.ensures.over (sign_over c.in_ok-node.ensures).1 c.in_ok-term-2.ensures.over c.in_err-mark.ensures)
 
 pub pair-returns : goal.pair-returns
 pair-returns t c =
     pair_taken c.args.draft.now c.args.offset c.requires c.in_ok-term.ensures c.in_ok-term-2.ensures (only_mark c.in_ok-mark.ensures) c.push.ensures
-    c.in_ok-node.node (c.set_node.ensures ∙ ap (λ n. with_node (drafted c.term.new.draft) n c.in_ok-node.node) c.len-at.ensures) c.in_ok-node.ensures
+    c.in_ok-node.node (c.set_node.ensures ∙ ap (λ n. with_node c.term.new.draft n c.in_ok-node.node) c.len-at.ensures.count) c.in_ok-node.ensures
 
 pub term-returns-in_err-mark : goal.term-returns-in_err-mark
-term-returns-in_err-mark t c =
-    refused_up _ _ c.from_residual.result _ c.from_residual.ensures.1 (no_term c.in_err-mark.ensures)
+term-returns-in_err-mark t c = search (rules, no_term c.in_err-mark.ensures)
 
 pub term-returns-in_err-rest-in-114 : goal.term-returns-in_err-rest-in-114
 term-returns-in_err-rest-in-114 t c =
     let told = c.in_ok-mark.ensures in
     let byte = mark_byte told c.lexeme-mark.ensures in
-    refused_up _ _ c.from_residual-in_err-rest-in-114.result _ c.from_residual-in_err-rest-in-114.ensures.1
-    (rest_fault told.taken.over (sym byte ∙ c.in-114.is) c.in_err-rest-in-114.ensures)
+    search (rules, rest_fault told.taken.over (sym byte ∙ c.in-114.is) c.in_err-rest-in-114.ensures)
 
 pub term-returns-in_err-numbers-in_default : goal.term-returns-in_err-numbers-in_default
 term-returns-in_err-numbers-in_default t c =
     let told = c.in_ok-mark.ensures in
     let byte = mark_byte told c.lexeme-mark.ensures in
     let here = first_third told.one (λ e. omega (arith, byte, e)) (λ e. omega (arith, byte, e)) in
-    refused_up _ _ c.from_residual-in_err-numbers-in_default.result _ c.from_residual-in_err-numbers-in_default.ensures.1
-    (primitive_fault told.taken.over here c.in_err-numbers-in_default.ensures)
+    search (rules, primitive_fault told.taken.over here c.in_err-numbers-in_default.ensures)
 
 pub term-returns-in-40 : goal.term-returns-in-40
 term-returns-in-40 t c =
@@ -65,7 +56,7 @@ term-returns-in-40 t c =
       term = h.term;
       grammatical = h.grammatical;
       over = subst (λ w. Over Body NoDigit w c.args.self.now c.pair.new.self) (sym h.printed) (pair_over told.taken.over here h.over);
-      drafted = h.drafted ∙ ap (λ o. take 1024 (drafted c.args.draft.now ++ items o h.term)) offset;
+      drafted = h.drafted ∙ ap (λ o. take 1024 (c.args.draft.now ++ items o h.term)) offset;
     })
     (λ e h. pair_fault told.taken.over here h)
 
@@ -80,7 +71,7 @@ term-returns-in_ok-rest-in-114 t c =
       term = rest d;
       grammatical = number.small;
       over = rest_over told.taken.over (sym byte ∙ c.in-114.is) d number.over;
-      drafted = c.push.ensures ∙ ap (λ o. take 1024 (drafted c.args.draft.now ++ items o (rest d))) offset;
+      drafted = c.push.ensures ∙ ap (λ o. take 1024 (c.args.draft.now ++ items o (rest d))) offset;
     }
 
 pub term-returns-in_ok-numbers-in_default : goal.term-returns-in_ok-numbers-in_default
@@ -95,5 +86,5 @@ term-returns-in_ok-numbers-in_default t c =
       term = primitive p;
       grammatical = numbers.words;
       over = primitive_over told.taken.over here p numbers.over;
-      drafted = c.push-in_default.ensures ∙ ap (λ o. take 1024 (drafted c.args.draft.now ++ items o (primitive p))) offset;
+      drafted = c.push-in_default.ensures ∙ ap (λ o. take 1024 (c.args.draft.now ++ items o (primitive p))) offset;
     }

@@ -1,24 +1,24 @@
-use Rattle.std.proofs.Common.{drop, refl, arith}
+use Rattle.std.proofs.Common.{◌+◌, drop, refl, arith, rules}
 use Rattle.std.specs.List.{between}
 use Rattle.reading.specs.Passing.{Opens, NoDigit}
 use Rattle.reading.proofs.Steps.{digits_passed, opens_at}
 use Rattle.reading.proofs.reader.Reader.digits.Goals as goal
-use Rattle.reading.proofs.reader.Reader.digits.Goals.{then-loop-end-test+else-is_ascii_digit, else-loop-end-test}
 
 pub returns : goal.returns
 returns c =
     let text = c.args.self.now.text.now in
-    let inv = c.loop-end.invariant in
-    let ends : Opens NoDigit (drop c.loop-end.end text) =
-    opens_at NoDigit text c.loop-end.end (λ lt digit. elim c.loop-end-test.branch [ then-loop-end-test+else-is_ascii_digit w ↦ omega (arith, w.if-is_ascii_digit.ensures.cases) | else-loop-end-test w ↦ omega arith ]) in
+    let at = c.args.self.now.at in
+    let n = c.run_length.result in
+    let run = c.run_length.ensures in
+    let ends : Opens NoDigit (drop (at + n) text) = opens_at NoDigit text (at + n) (λ lt digit. let no = run.ends (omega (arith, c.args.self.now.small)) lt in let m = no.says.met in let e = no.shows in search rules) in
     record {
-      digits = between c.args.self.now.at c.loop-end.end text;
+      digits = between at (at + n) text;
       taken = record {
         lexeme = c.since.result;
         is = refl;
         bytes = c.since.ensures.bytes;
         offset = c.since.ensures.offset;
-        over = record { text = refl; section = refl; passed = digits_passed text _ _ inv.0 inv.1 inv.2 ends };
+        over = record { text = refl; section = refl; passed = digits_passed text at n run.within (λ k lt. let yes = run.passes k lt in let m = yes.says.met in let e = yes.shows in search rules) ends };
       };
       ends = ends;
     }

@@ -1,15 +1,12 @@
-use Rattle.reading.proofs.Composition.{refused_up}
+use Rattle.std.proofs.Common.{rules}
 use Rattle.reading.proofs.Leaves.{field_first, field_second, field_over}
 use Rattle.reading.proofs.reader.Reader.field.Goals as goal
 
 pub returns-in_err-number : goal.returns-in_err-number
-returns-in_err-number c =
-    refused_up _ _ c.from_residual.result _ c.from_residual.ensures.1 (field_first c.in_err-number.ensures)
+returns-in_err-number c = search (rules, field_first)
 
 pub returns-in_err-mark : goal.returns-in_err-mark
-returns-in_err-mark c =
-    refused_up _ _ c.from_residual-in_err-mark.result _ c.from_residual-in_err-mark.ensures.1
-    (field_second c.in_ok-number.ensures.over c.in_err-mark.ensures)
+returns-in_err-mark c = search (rules, field_second)
 
 pub returns : goal.returns
 returns c =

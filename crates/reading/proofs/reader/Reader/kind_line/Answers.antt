@@ -1,9 +1,8 @@
-use Rattle.std.proofs.Common.{codes, sym, refl, ◌∙◌, subst, arith}
+use Rattle.std.proofs.Common.{rules, codes, sym, refl, ◌∙◌, subst, arith}
 use Rattle.algebra.specs.Kind.{Name}
 use Rattle.grammar.specs.Files.{line}
 use Rattle.reading.specs.Languages.{KindLine}
 use Rattle.reading.specs.Passing.{Any, NoLetter, Over}
-use Rattle.reading.proofs.Composition.{refused_up}
 use Rattle.reading.proofs.Steps.{some_name, handed_bytes, handed_offset}
 use Rattle.reading.proofs.Lines.{line_key, line_word, line_end, line_over}
 use Rattle.reading.proofs.reader.Reader.kind_line.Goals as goal
@@ -13,18 +12,15 @@ newline d = omega arith
 
 pub returns-in_err-key : goal.returns-in_err-key
 returns-in_err-key c =
-    refused_up _ _ c.from_residual.result _ c.from_residual.ensures.1
-    (line_key _ Name NoLetter newline _ some_name c.args.self.now c.in_err-key.ensures)
+    search (rules, line_key _ Name NoLetter newline _ some_name c.args.self.now c.in_err-key.ensures)
 
 pub returns-in_err-name : goal.returns-in_err-name
 returns-in_err-name c =
-    refused_up _ _ c.from_residual-in_err-name.result _ c.from_residual-in_err-name.ensures.1
-    (line_word _ Name NoLetter newline _ some_name c.in_ok-key.ensures.over c.in_err-name.ensures)
+    search (rules, line_word _ Name NoLetter newline _ some_name c.in_ok-key.ensures.over c.in_err-name.ensures)
 
 pub returns-in_err-key-2 : goal.returns-in_err-key-2
 returns-in_err-key-2 c =
-    refused_up _ _ c.from_residual-in_err-key-2.result _ c.from_residual-in_err-key-2.ensures.1
-    (line_end _ Name NoLetter newline _ some_name c.in_ok-key.ensures.over c.in_ok-name.ensures.1.over c.in_err-key-2.ensures)
+    search (rules, line_end _ Name NoLetter newline _ some_name c.in_ok-key.ensures.over c.in_ok-name.ensures.1.over c.in_err-key-2.ensures)
 
 pub returns : goal.returns
 returns c =

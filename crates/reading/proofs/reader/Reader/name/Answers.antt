@@ -1,25 +1,22 @@
-use Rattle.std.proofs.Common.{get_or, refl, ap, arith}
+use Rattle.std.proofs.Common.{◌+◌, refl, arith, rules}
 use Rattle.std.specs.List.{between}
 use Rattle.reading.proofs.Steps.{name_passed, name_stopped}
 use Rattle.reading.proofs.reader.Reader.name.Goals as goal
-use Rattle.reading.proofs.reader.Reader.name.Goals.{then-loop-end-test+then-end-start-lt8+else-is_ascii_lowercase, then-loop-end-test+else-end-start-lt8, else-loop-end-test}
 
-pub returns-then-end-start : goal.returns-then-end-start
-returns-then-end-start c = record {
+pub returns-then-length-eq0 : goal.returns-then-length-eq0
+returns-then-length-eq0 c = record {
   offset = c.args.self.now.at;
   is = c.misfit.ensures;
-  stopped = name_stopped _ _ c.args.self.now.within (λ lt letter.
-      elim c.loop-end-test.branch [
-        | then-loop-end-test+then-end-start-lt8+else-is_ascii_lowercase w ↦ omega (arith, w.if-is_ascii_lowercase.ensures.cases, ap (λ i. get_or c.args.self.now.text.now i 0) c.if-end-start.true)
-        | then-loop-end-test+else-end-start-lt8 w ↦ omega arith
-        | else-loop-end-test w ↦ omega arith
-      ]);
+  stopped = name_stopped _ _ c.args.self.now.within (λ lt letter. let no = c.run_length-length.ensures.ends (omega arith) (omega arith) in let m = no.says.met in let e = no.shows in search rules);
 }
 
 pub returns : goal.returns
 returns c =
-    let inv = c.loop-end.invariant in (
-      between c.args.self.now.at c.loop-end.end c.args.self.now.text.now,
+    let text = c.args.self.now.text.now in
+    let at = c.args.self.now.at in
+    let n = c.run_length-length.result in
+    let run = c.run_length-length.ensures in (
+      between at (at + n) text,
       record {
         lexeme = c.since.result;
         is = refl;
@@ -28,12 +25,7 @@ returns c =
         over = record {
           text = refl;
           section = refl;
-          passed = name_passed _ _ _ (omega arith) inv.1 inv.2 inv.3 (λ lt short letter.
-              elim c.loop-end-test.branch [
-                | then-loop-end-test+then-end-start-lt8+else-is_ascii_lowercase w ↦ omega (arith, w.if-is_ascii_lowercase.ensures.cases)
-                | then-loop-end-test+else-end-start-lt8 w ↦ omega arith
-                | else-loop-end-test w ↦ omega arith
-              ]);
+          passed = name_passed text at n (omega arith) run.few run.within (λ k lt. let yes = run.passes k lt in let m = yes.says.met in let e = yes.shows in search rules) (λ lt in_text letter. let no = run.ends lt in_text in let m = no.says.met in let e = no.shows in search rules);
         };
       },
     )

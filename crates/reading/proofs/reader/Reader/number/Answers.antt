@@ -1,9 +1,8 @@
-use Rattle.std.proofs.Common.{length, sym, refl, ap, ◌∙◌, subst, arith, true-eqb}
+use Rattle.std.proofs.Common.{rules, length, sym, refl, ap, ◌∙◌, subst, arith, true-eqb}
 use Rattle.refusals.specs.declared.refusal.Section.{Section}
 use Rattle.refusals.specs.declared.refusal.Refusal.TheVariants.{Misfit}
 use Rattle.reading.specs.Taking.{BadDigit}
 use Rattle.reading.proofs.Numbers.{number_passed, number_fault, number_none}
-use Rattle.reading.proofs.Composition.{refused_up}
 use Rattle.reading.proofs.Steps.{handed_bytes, handed_offset}
 use Rattle.reading.proofs.reader.Reader.number.Goals as goal
 
@@ -27,8 +26,7 @@ returns-in_err-value c =
     let bad = subst (λ (s : Section). BadDigit c.args.limit told.digits c.args.self.now.at s e) told.taken.over.section
     (subst (λ o. BadDigit c.args.limit told.digits o c.digits.new.self.section e) offset
     (subst (λ ds. BadDigit c.args.limit ds c.lexeme-run.result.offset c.digits.new.self.section e) bytes c.in_err-value.ensures)) in
-    refused_up _ _ c.from_residual.result _ c.from_residual.ensures.1
-    (number_fault c.args.limit (omega arith) told.taken.over.passed told.ends _ _ bad)
+    search (rules, number_fault c.args.limit (omega arith) told.taken.over.passed told.ends _ _ bad)
 
 pub returns : goal.returns
 returns c =

@@ -1,7 +1,6 @@
-use Rattle.std.proofs.Common.{ℕ, decimal, refl, ◌∙◌, arith}
+use Rattle.std.proofs.Common.{rules, ℕ, decimal, refl, ◌∙◌, arith}
 use Rattle.reading.specs.Languages.{Numeral}
 use Rattle.reading.specs.Passing.{NoDigit}
-use Rattle.reading.proofs.Composition.{refused_up}
 use Rattle.reading.proofs.Lines.{line_key, line_word, line_end, line_over}
 use Rattle.reading.proofs.reader.Reader.number_line.Goals as goal
 
@@ -13,18 +12,15 @@ some limit = (0, omega arith, refl)
 
 pub returns-in_err-key : goal.returns-in_err-key
 returns-in_err-key c =
-    refused_up _ _ c.from_residual.result _ c.from_residual.ensures.1
-    (line_key _ (Numeral c.args.limit) NoDigit newline _ (some _) c.args.self.now c.in_err-key.ensures)
+    search (rules, line_key _ (Numeral c.args.limit) NoDigit newline _ (some _) c.args.self.now c.in_err-key.ensures)
 
 pub returns-in_err-number : goal.returns-in_err-number
 returns-in_err-number c =
-    refused_up _ _ c.from_residual-in_err-number.result _ c.from_residual-in_err-number.ensures.1
-    (line_word _ (Numeral c.args.limit) NoDigit newline _ (some _) c.in_ok-key.ensures.over c.in_err-number.ensures)
+    search (rules, line_word _ (Numeral c.args.limit) NoDigit newline _ (some _) c.in_ok-key.ensures.over c.in_err-number.ensures)
 
 pub returns-in_err-key-2 : goal.returns-in_err-key-2
 returns-in_err-key-2 c =
-    refused_up _ _ c.from_residual-in_err-key-2.result _ c.from_residual-in_err-key-2.ensures.1
-    (line_end _ (Numeral c.args.limit) NoDigit newline _ (some _) c.in_ok-key.ensures.over c.in_ok-number.ensures.over c.in_err-key-2.ensures)
+    search (rules, line_end _ (Numeral c.args.limit) NoDigit newline _ (some _) c.in_ok-key.ensures.over c.in_ok-number.ensures.over c.in_err-key-2.ensures)
 
 pub returns : goal.returns
 returns c =

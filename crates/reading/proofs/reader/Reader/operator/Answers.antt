@@ -1,12 +1,10 @@
-use Rattle.std.proofs.Common.{[], ◌∷◌, refl, ◌∙◌, inl, ⊎_elim}
-use Rattle.reading.proofs.Composition.{refused_up}
+use Rattle.std.proofs.Common.{rules, [], ◌∷◌, refl, ◌∙◌, inl, ⊎_elim}
 use Rattle.reading.proofs.Steps.{no_mark, has_first}
 use Rattle.reading.proofs.Leaves.{mark_byte, sign_cases, same_sign}
 use Rattle.reading.proofs.reader.Reader.operator.Goals as goal
 
 pub returns-in_err-mark : goal.returns-in_err-mark
-returns-in_err-mark c =
-    refused_up _ _ c.from_residual.result _ c.from_residual.ensures.1 (no_mark _ 43 (has_first 43 (124 ∷ [])) c.in_err-mark.ensures)
+returns-in_err-mark c = search (rules, no_mark _ 43 (has_first 43 (124 ∷ [])) c.in_err-mark.ensures)
 
 pub returns-else-mark-eq124 : goal.returns-else-mark-eq124
 returns-else-mark-eq124 c =

@@ -1,7 +1,4 @@
-use Rattle.std.proofs.Common.{◌<◌, ◌≤◌, length, sym, refl, ◌∙◌, arith}
-use Rattle.std.proofs.ByRecursion.{All-get_or}
-use Rattle.std.proofs.lemmas.List.{take_all}
-use Rattle.reading.specs.Languages.{Digit}
+use Rattle.std.proofs.Common.{◌<◌, refl, arith}
 use Rattle.reading.proofs.Numbers.{leading_zero, past_limit, step}
 use Rattle.reading.proofs.reader.number.value_of.Goals as goal
 use Rattle.reading.proofs.reader.number.value_of.Goals.{else-i-gt0-via-then-i-gt0+else-value-eq0, else-i-gt0-via-else-i-gt0}
@@ -13,9 +10,6 @@ returns-then-value-eq0 c = record {
   inside = c.loop-i-test.true;
   stopped = leading_zero c.args.limit (omega arith) _ c.requires.digits c.loop-i.i c.loop-i.value c.loop-i-test.true c.loop-i.invariant c.if-i-gt0.true c.if-value-eq0.true;
 }
-
-pub overflow_sub-b : goal.overflow_sub-b
-overflow_sub-b c = (All-get_or Digit _ c.loop-i.i 0 (omega arith) c.requires.digits).0
 
 pub returns-then-longer-from : goal.returns-then-longer-from
 returns-then-longer-from c =
@@ -31,8 +25,3 @@ pub loop-i-preserved : goal.loop-i-preserved
 loop-i-preserved c =
     let nonzero : 0 < c.loop-i.i → 0 < c.loop-i.value = λ pos. elim c.else-i-gt0.branch [ else-i-gt0-via-then-i-gt0+else-value-eq0 w ↦ omega arith | else-i-gt0-via-else-i-gt0 w ↦ omega arith ] in
     step c.args.limit (omega arith) _ c.requires.digits c.loop-i.i c.loop-i.value c.loop-i-test.true c.loop-i.invariant nonzero _ (omega arith) (omega arith)
-
-pub returns : goal.returns
-returns c =
-    let end : length c.args.run.bytes.now ≤ c.loop-i.i = omega arith in
-    (c.loop-i.invariant.below, sym (take_all c.loop-i.i _ end) ∙ c.loop-i.invariant.some (omega (arith, c.requires.some)))

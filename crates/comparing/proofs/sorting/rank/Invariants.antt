@@ -1,6 +1,0 @@
-use Rattle.std.proofs.Common.{◌≡◌, take}
-use Rattle.comparing.specs.Sorting.{items_of}
-use Rattle.comparing.proofs.sorting.rank.Given as goal
-
-abbrev pub invariant-loop-at : goal.invariant-loop-at
-invariant-loop-at g l = items_of (take l.at l.out) ≡ take l.at l.list

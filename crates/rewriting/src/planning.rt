@@ -41,11 +41,11 @@ fn plan_back<'a, K: Kind>(score: Score<'a, K>, rule: Rule, split: u32) -> Option
         Rule::SequenceAssociative => associate_back(&score, Join::Sequence),
         Rule::ParallelAssociative => associate_back(&score, Join::Parallel),
         Rule::ParallelCommutative => commute(&score),
-        Rule::SequenceUnitLeft => with_left(score, Join::Sequence),
-        Rule::SequenceUnitRight => with_right(score, Join::Sequence),
-        Rule::ParallelUnit => with_right(score, Join::Parallel),
+        Rule::SequenceUnitLeft => Some(with_left(score, Join::Sequence)),
+        Rule::SequenceUnitRight => Some(with_right(score, Join::Sequence)),
+        Rule::ParallelUnit => Some(with_right(score, Join::Parallel)),
         Rule::RestSplit => split_rest(&score, split),
-        Rule::RestBeside => with_left(score, Join::Parallel),
+        Rule::RestBeside => Some(with_left(score, Join::Parallel)),
         Rule::Exchange => exchange(&score, Join::Sequence),
     }
 }

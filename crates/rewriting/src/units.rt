@@ -1,5 +1,5 @@
 // The other sides of the rules by which a rest that changes nothing is left out or put in.
-ghost use Rattle.std.specs.Prelude.{◌≡◌};
+ghost use Rattle.std.specs.Prelude.{◌≡◌, Some};
 ghost use Rattle.std.specs.Option.{option_map};
 ghost use Rattle.algebra.specs.declared.rule.Way.TheVariants.{Forth, Back};
 ghost use Rattle.algebra.specs.Rewrite.{other_side};
@@ -43,16 +43,16 @@ pub fn without_right<'a, K: Kind>(score: &Score<'a, K>, join: Join) -> Option<Pl
 }
 
 // From a to (r0+a), or to (rn|a), where n is the length of a.
-pub fn with_left<'a, K: Kind>(score: Score<'a, K>, join: Join) -> Option<Plan<'a, K>>
-    ensures { option_map plan_score result ≡ other_side K.Kind.model (unit_left join) Back 0 score.entry }
+pub fn with_left<'a, K: Kind>(score: Score<'a, K>, join: Join) -> Plan<'a, K>
+    ensures { Some (plan_score result) ≡ other_side K.Kind.model (unit_left join) Back 0 score.entry }
 {
     let ticks = ticks_before(&score, join);
-    Some(Plan::Simple(Pieces::Two(join, Piece::Rest(ticks), Piece::Part(score))))
+    Plan::Simple(Pieces::Two(join, Piece::Rest(ticks), Piece::Part(score)))
 }
 
 // From a to (a r0).
-pub fn with_right<'a, K: Kind>(score: Score<'a, K>, join: Join) -> Option<Plan<'a, K>>
-    ensures { option_map plan_score result ≡ other_side K.Kind.model (unit_right join) Back 0 score.entry }
+pub fn with_right<'a, K: Kind>(score: Score<'a, K>, join: Join) -> Plan<'a, K>
+    ensures { Some (plan_score result) ≡ other_side K.Kind.model (unit_right join) Back 0 score.entry }
 {
-    Some(Plan::Simple(Pieces::Two(join, Piece::Part(score), Piece::Rest(0))))
+    Plan::Simple(Pieces::Two(join, Piece::Part(score), Piece::Rest(0)))
 }

@@ -12,19 +12,19 @@ use partners::after::list_after;
 use refusals::refusal::Refusal;
 use writing::file::write_file;
 
-// Writes the file of the normal form of a score after a model, by way of a list that has no nodes. A buffer that is too short is refused and left as it is.
+// Writes the file of the normal form of a score after a model, by way of a list that has no nodes, and returns how many bytes it has. A buffer that is too short is refused and left as it is.
 pub fn write_normal<K: Kind>(
     score: &Score<'_, K>,
     model: &Score<'_, K>,
-    nodes: &mut NodeList<'_, K>,
+    form: &mut NodeList<'_, K>,
     buffer: &mut [u8],
 ) -> Result<u32, Refusal>
-    requires { nodes.old ≡ [] }
+    requires { form.old ≡ [] }
     ensures answer { result ≡ written_answer (normal_bytes K.Kind.model score.now model.now) (length buffer.old) }
     ensures after { buffer.new ≡ written_over result (normal_bytes K.Kind.model score.now model.now) buffer.old }
 {
     let meaning = list_after(score, model);
-    write_lines(&meaning, nodes);
-    let form = Measured::of(nodes.as_slice());
-    write_file(&form.score(), meaning.placed.len() as u32, buffer)
+    write_lines(&meaning, form);
+    let measured = Measured::of(form.as_slice());
+    write_file(&measured.score(), meaning.placed.len() as u32, buffer)
 }

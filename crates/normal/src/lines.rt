@@ -22,7 +22,7 @@ pub fn primitive_of<K: Kind>(numbers: Numbers) -> K
 }
 
 // Puts the line of a placed primitive in a score of a length behind the nodes of a list.
-fn write_line<K: Kind>(length: u32, item: PlacedNumbers, out: &mut NodeList<K>)
+fn write_line<K: Kind>(length: u32, item: PlacedNumbers, out: &mut NodeList<'_, K>)
     requires legal { LegalNumbers K.Kind.model item.numbers }
     requires room { length_of out.old + 5 ≤ 1023 }
     ensures { out.new ≡ out.old ++ preorder (line_of K.Kind.model length (placed_of item)) }
@@ -38,7 +38,7 @@ fn write_line<K: Kind>(length: u32, item: PlacedNumbers, out: &mut NodeList<K>)
 }
 
 // Puts the lines of placed primitives in a score of a length, together in their order, behind the nodes of a list.
-pub fn write_lines<K: Kind>(meaning: &Meaning<K>, out: &mut NodeList<K>)
+pub fn write_lines<K: Kind>(meaning: &Meaning<K>, out: &mut NodeList<'_, K>)
     requires { length_of out.old + nodes (lines_of K.Kind.model meaning.now.length meaning.now.placed) ≤ 1023 }
     ensures { out.new ≡ out.old ++ preorder (lines_of K.Kind.model meaning.now.length meaning.now.placed) }
 {

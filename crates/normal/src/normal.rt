@@ -11,7 +11,7 @@ use nodes::list::NodeList;
 use nodes::score::Score;
 
 // Puts the normal form of a score behind the nodes of a list.
-pub fn normalise_into<K: Kind>(score: &Score<'_, K>, out: &mut NodeList<K>)
+pub fn normalise_into<K: Kind>(score: &Score<'_, K>, out: &mut NodeList<'_, K>)
     requires { length out.old + nodes (normal K.Kind.model score.now) ≤ 1023 }
     ensures { out.new ≡ out.old ++ preorder (normal K.Kind.model score.now) }
 {

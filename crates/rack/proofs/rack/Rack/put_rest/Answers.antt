@@ -10,9 +10,11 @@ whole_as_slice-over g c =
     fewer_bytes c.self.inside.nodes.now c.args.to _ _ (omega (arith, c.requires.known, ap length c.self.view_is, length_shelf g.K.Kind.numbers_of c.self.inside.nodes.now c.self.inside.places)) c.self.ranges.0.0.1.1
 
 pub put-requires-clause-ready : goal.put-requires-clause-ready
-put-requires-clause-ready g c =
-    (rest c.args.ticks, record {
-      nodes = c.push.ensures ∙ ap (λ l. l ++ (Rest c.args.ticks ∷ [])) c.over-nodes.ensures;
-      size_is = refl;
-      fits = record { few_nodes = omega arith; few_primitives = omega arith; short = c.requires.short };
-    })
+put-requires-clause-ready g c = (
+  rest c.args.ticks,
+  record {
+    nodes = c.push.ensures ∙ ap (λ l. l ++ (Rest c.args.ticks ∷ [])) c.over-nodes.ensures;
+    size_is = refl;
+    fits = record { few_nodes = omega arith; few_primitives = omega arith; short = c.requires.short };
+  },
+)

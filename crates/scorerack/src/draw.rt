@@ -1,9 +1,9 @@
 // The calls that draw a score, and what they answer.
+use crate::play::Player;
 use crate::say::say;
 use algebra::limits::MOST_PRIMITIVES;
 use algebra::numbers::Numbers;
 use kinds::kind::Kind;
-use rack::rack::Rack;
 use render::entry::Entry;
 use render::grid::Grid;
 use render::roll::Roll;
@@ -21,57 +21,50 @@ fn list(rt: &HostRuntime, entries: &[Entry]) -> anyhow::Result<()> {
     Ok(())
 }
 
-// Draws the score at a place on a roll over a row for so many entries, and shows it. A score has no more entries than
-// primitives, so a longer row would change no answer.
-pub fn roll<K: Kind>(
-    rt: &HostRuntime,
-    rack: &Rack<'_, K>,
-    place: u32,
-    capacity: u32,
-) -> anyhow::Result<()> {
-    let blank = Entry {
-        onset: 0,
-        length: 0,
-        numbers: Numbers::default(),
-    };
-    let mut row = vec![in rt.alloc(); blank; (capacity as usize).min(MOST_PRIMITIVES)]?;
-    let mut roll = Roll::new(&mut row);
-    if let Err(refusal) = rack.draw(place, &mut roll) {
-        return say(rt, Err(refusal));
-    }
-    let length = roll.length();
-    match roll.entries() {
-        Some(entries) => {
-            println!(rt; "length={length} entries={}", entries.len())?;
-            list(rt, entries)
+impl<K: Kind> Player<'_, '_, K> {
+    // Draws the score at a place on a roll over a row for so many entries, and shows it. A score has no more entries than
+    // primitives, so a longer row would change no answer.
+    pub fn roll(&self, place: u32, capacity: u32) -> anyhow::Result<()> {
+        let rt = self.rt;
+        let blank = Entry {
+            onset: 0,
+            length: 0,
+            numbers: Numbers::default(),
+        };
+        let mut row = vec![in rt.alloc(); blank; (capacity as usize).min(MOST_PRIMITIVES)]?;
+        let mut roll = Roll::new(&mut row);
+        if let Err(refusal) = self.rack.draw(place, &mut roll) {
+            return say(rt, Err(refusal));
         }
-        None => {
-            println!(rt; "length={length} overfull")?;
-            Ok(())
+        let length = roll.length();
+        match roll.entries() {
+            Some(entries) => {
+                println!(rt; "length={length} entries={}", entries.len())?;
+                list(rt, entries)
+            }
+            None => {
+                println!(rt; "length={length} overfull")?;
+                Ok(())
+            }
         }
     }
-}
 
-// Draws the score at a place on a grid over a row of so many counts, and shows it.
-pub fn grid<K: Kind>(
-    rt: &HostRuntime,
-    rack: &Rack<'_, K>,
-    place: u32,
-    width: u32,
-    cells: u32,
-) -> anyhow::Result<()> {
-    let mut counts = vec![in rt.alloc(); 0u32; (cells as usize).min(MOST_CELLS)]?;
-    let mut grid = Grid::new(&mut counts, width);
-    if let Err(refusal) = rack.draw(place, &mut grid) {
-        return say(rt, Err(refusal));
-    }
-    print!(rt; "length={} cells=", grid.length())?;
-    if let Some((first, others)) = grid.cells().split_first() {
-        print!(rt; "{first}")?;
-        for count in others {
-            print!(rt; ",{count}")?;
+    // Draws the score at a place on a grid over a row of so many counts, and shows it.
+    pub fn grid(&self, place: u32, width: u32, cells: u32) -> anyhow::Result<()> {
+        let rt = self.rt;
+        let mut counts = vec![in rt.alloc(); 0u32; (cells as usize).min(MOST_CELLS)]?;
+        let mut grid = Grid::new(&mut counts, width);
+        if let Err(refusal) = self.rack.draw(place, &mut grid) {
+            return say(rt, Err(refusal));
         }
+        print!(rt; "length={} cells=", grid.length())?;
+        if let Some((first, others)) = grid.cells().split_first() {
+            print!(rt; "{first}")?;
+            for count in others {
+                print!(rt; ",{count}")?;
+            }
+        }
+        println!(rt; " beyond={}", grid.beyond())?;
+        Ok(())
     }
-    println!(rt; " beyond={}", grid.beyond())?;
-    Ok(())
 }

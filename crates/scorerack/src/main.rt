@@ -7,12 +7,13 @@ mod play;
 mod say;
 
 use crate::call::{parse_opening, skipped};
-use crate::play::play;
+use crate::play::Player;
 use algebra::limits::MOST_NODES;
 use algebra::node::Node;
 use kinds::clip::Clip;
 use kinds::kind::Kind;
 use kinds::note::Note;
+use rack::rack::Rack;
 
 // Plays the rest of a script on a rack with memory for some places; a rack has 8 at most.
 fn play_on<K: Kind>(
@@ -24,7 +25,8 @@ fn play_on<K: Kind>(
     println!(rt; "ok")?;
     let count = places.min(8) as usize * MOST_NODES;
     let mut nodes: Vec<Node<K>> = vec![in rt.alloc(); Node::default(); count]?;
-    play(rt, lines, first, &mut nodes)
+    let mut player = Player::new(rt, Rack::new(&mut nodes));
+    player.play(lines, first)
 }
 
 fn run(rt: &HostRuntime) -> anyhow::Result<()> {

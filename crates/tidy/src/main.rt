@@ -13,10 +13,7 @@ fn run(rt: &HostRuntime) -> anyhow::Result<()> {
     let Some(from) = args.next() else {
         return Err(anyhow!("usage: tidy IN [OUT]"));
     };
-    let text = match fs::read(rt, from.as_str()) {
-        Ok(text) => text,
-        Err(_) => return Err(anyhow!("the file cannot be read")),
-    };
+    let text = fs::read(rt, from.as_str()).map_err(|_| anyhow!("the file cannot be read"))?;
     let count = text.len();
     println!(rt; "read {from}: {count} bytes")?;
     tidy(rt, &text, args.next())

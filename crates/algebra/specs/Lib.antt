@@ -10,4 +10,5 @@ pub mod Rewrite
 pub mod Compare
 pub mod Limits
 pub mod Numbered
+pub mod Texts
 pub mod Theorems

@@ -1,3 +1,7 @@
+// The nodes of a score.
+ghost use Rattle.std.specs.Prelude.{◌≡◌};
+ghost use Rattle.algebra.specs.declared.node.Node.TheVariants.{Rest};
+
 // What stands at one node of a score. After a pair come the nodes of its left part, and then those of its right.
 #[derive(Clone, Copy)]
 pub enum Node<P> {
@@ -9,6 +13,8 @@ pub enum Node<P> {
 
 // A rest of 0 ticks.
 impl<P> Default for Node<P> {
+    ghost is_default = { λ n. n ≡ Rest 0 };
+
     fn default() -> Node<P> {
         Node::Rest(0)
     }

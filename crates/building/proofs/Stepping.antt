@@ -1,13 +1,12 @@
 -- What comes of a step of rewriting.
-use Rattle.std.proofs.Common.{◌≡◌, ℕ, List, [], ◌++◌, Some, None, Option, refl, ap, ◌∙◌, arith}
-use Rattle.algebra.specs.declared.numbers.Numbers.{Numbers}
-use Rattle.algebra.specs.declared.node.Node.{Node}
+use Rattle.std.proofs.Common.{◌≡◌, ℕ, ◌+◌, ◌≤◌, ◌++◌, Some, None, Option, refl, arith}
 use Rattle.algebra.specs.Kind.{KindModel}
-use Rattle.algebra.specs.Score.{Score, score_length}
+use Rattle.algebra.specs.Score.{Score, nodes, score_length}
 use Rattle.algebra.specs.Layout.{preorder}
 use Rattle.algebra.specs.Rules.{Chain.done, Chain.more}
-use Rattle.algebra.proofs.Rewrite.{rewrites_step}
+use Rattle.algebra.proofs.Rewrite.{rewrites_step, rewrite_size}
 use Rattle.algebra.proofs.Sound.{chain_kept}
+use Rattle.nodes.specs.Lists.{Listed}
 use Rattle.refusals.specs.Checks.{passed}
 use Rattle.rewriting.specs.declared.step.Step.{Step}
 use Rattle.rewriting.specs.Rewritings.{Rewrote}
@@ -18,16 +17,25 @@ pub step_length : (K : KindModel) (step : Step) (node : ℕ) (s t : Score) → s
 step_length K step node s t is = (chain_kept (more (rewrites_step K step.rule step.way step.split node s t is) done)).length
 
 module _ (K : KindModel) (step : Step) (node : ℕ) (s : Score) where
-  -- what a step has made of a score is a list of nodes
-  pub record Done (ys : List (Node Numbers)) : Type 0 where
+  -- what a step has put behind the nodes of a list
+  pub record Done (xs ys : Listed) : Type 0 where
     pub result : Score
     pub is : stepped K (Some step) node s ≡ Some result
-    pub row : ys ≡ preorder result
+    pub row : ys.items ≡ xs.items ++ preorder result
+    pub room : ys.room ≡ xs.room
     pub length : score_length K s ≡ score_length K result
+    pub few : nodes result ≤ nodes s + 2
 
-  pub step_done : (xs ys : List (Node Numbers)) → xs ≡ [] → Rewrote node (stepped K (Some step) node s) xs ys passed → Done ys
-  step_done xs ys empty = at (stepped K (Some step) node s) refl
+  pub step_done : (xs ys : Listed) → Rewrote node (stepped K (Some step) node s) xs ys passed → Done xs ys
+  step_done xs ys = at (stepped K (Some step) node s) refl
     where
-      at : (o : Option Score) → stepped K (Some step) node s ≡ o → Rewrote node o xs ys passed → Done ys
+      at : (o : Option Score) → stepped K (Some step) node s ≡ o → Rewrote node o xs ys passed → Done xs ys
       at None is w = absurd (grind arith)
-      at (Some t) is w = record { result = t; is = is; row = w.row ∙ ap (λ us. us ++ preorder t) empty; length = step_length K step node s t is }
+      at (Some t) is w = record {
+        result = t;
+        is = is;
+        row = w.row;
+        room = w.kept;
+        length = step_length K step node s t is;
+        few = (rewrite_size K step.rule step.way step.split node s t is).1;
+      }

@@ -2,6 +2,7 @@
 #![tactic(auto)]
 
 pub mod change;
+mod keeping;
 pub mod making;
 pub mod rewrite;
 pub mod size;

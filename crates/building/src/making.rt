@@ -1,10 +1,11 @@
 // What a change makes of a score.
-ghost use Rattle.std.specs.Prelude.{◌≡◌, [], OnOk};
-ghost use Rattle.algebra.specs.Layout.{preorder};
+ghost use Rattle.std.specs.Prelude.{◌≡◌, ◌+◌, ◌≤◌, length as length_of};
 ghost use Rattle.building.specs.Changes.{changed};
+ghost use Rattle.building.specs.Rows.{laid};
 ghost use Rattle.building.specs.Sizes.{sized};
 
 use crate::change::Change;
+use crate::keeping::undo_refused;
 use crate::size::{Size, size_within};
 use algebra::limits::MOST_NODES;
 use cuts::count::reversed_nodes;
@@ -17,39 +18,32 @@ use nodes::score::Score;
 use normal::normal::normalise_into;
 use refusals::refusal::Refusal;
 
-// Puts what a change makes of a score into a list that has no nodes, where it is within the limits, and returns its size.
-// Only a reverse may have more nodes than a list has room for.
+// Puts what a change makes of a score behind the nodes of a list, where it is within the limits, and returns its size.
+// Only a reverse may have more nodes than a score may.
 pub fn change<K: Kind>(
     score: &Score<'_, K>,
     change: Change,
     out: &mut NodeList<'_, K>,
 ) -> Result<Size, Refusal>
-    requires { out.old ≡ [] }
+    requires { length_of out.old.items + 1023 ≤ out.old.room }
     ensures answer { result ≡ sized K.Kind.model (changed K.Kind.model change score.now) }
-    ensures nodes { OnOk result (out.new ≡ preorder (changed K.Kind.model change score.now)) }
+    ensures after { out.new ≡ laid result out.old (changed K.Kind.model change score.now) }
 {
-    let whole = score.length();
-    let length = match change {
+    let length = change.length(score.length());
+    let before = out.len();
+    match change {
         Change::Reverse => {
             let count = reversed_nodes(score);
             if count as usize > MOST_NODES {
                 return Err(Refusal::TooMany(count));
             }
             reverse_into(score, out);
-            whole
         }
-        Change::Take(ticks) => {
-            take_into(score, ticks, out);
-            whole.min(ticks)
-        }
-        Change::Drop(ticks) => {
-            drop_into(score, ticks, out);
-            whole.saturating_sub(ticks)
-        }
-        Change::Normalise => {
-            normalise_into(score, out);
-            whole
-        }
-    };
-    size_within(out, length)
+        Change::Take(ticks) => take_into(score, ticks, out),
+        Change::Drop(ticks) => drop_into(score, ticks, out),
+        Change::Normalise => normalise_into(score, out),
+    }
+    let size = size_within(&out.as_slice()[before..], length);
+    undo_refused(out, before, &size);
+    size
 }

@@ -1,10 +1,10 @@
 // One step of rewriting of a score.
-ghost use Rattle.std.specs.Prelude.{◌≡◌, ◌<◌, [], Some, OnOk};
-ghost use Rattle.algebra.specs.Layout.{preorder};
+ghost use Rattle.std.specs.Prelude.{◌≡◌, ◌+◌, ◌<◌, ◌≤◌, length, Some};
 ghost use Rattle.algebra.specs.Score.{nodes as nodes_of};
-ghost use Rattle.building.specs.Rows.{score_in};
+ghost use Rattle.building.specs.Rows.{laid, score_in};
 ghost use Rattle.building.specs.Steps.{stepped, stepped_size};
 
+use crate::keeping::undo_refused;
 use crate::size::{Size, size_within};
 use kinds::kind::Kind;
 use nodes::list::NodeList;
@@ -13,7 +13,7 @@ use refusals::refusal::Refusal;
 use rewriting::rewrite::rewrite_into;
 use rewriting::step::Step;
 
-// Puts what a step at a node makes of a score into a list that has no nodes, where it fits and is within the limits, and returns its size.
+// Puts what a step at a node makes of a score behind the nodes of a list, where it fits and is within the limits, and returns its size.
 pub fn rewrite<K: Kind>(
     score: &Score<'_, K>,
     node: u32,
@@ -21,10 +21,13 @@ pub fn rewrite<K: Kind>(
     out: &mut NodeList<'_, K>,
 ) -> Result<Size, Refusal>
     requires inside { node < nodes_of score.now }
-    requires empty { out.old ≡ [] }
+    requires room { length out.old.items + 1023 ≤ out.old.room }
     ensures answer { result ≡ stepped_size K.Kind.model node (stepped K.Kind.model (Some step) node score.now) }
-    ensures nodes { OnOk result (out.new ≡ preorder (score_in (stepped K.Kind.model (Some step) node score.now))) }
+    ensures after { out.new ≡ laid result out.old (score_in (stepped K.Kind.model (Some step) node score.now)) }
 {
+    let before = out.len();
     rewrite_into(score, node, step, out)?;
-    size_within(out, score.length())
+    let size = size_within(&out.as_slice()[before..], score.length());
+    undo_refused(out, before, &size);
+    size
 }

@@ -1,14 +1,14 @@
 // How large a score is, and how large one may be.
-ghost use Rattle.std.specs.Prelude.{◌≡◌, ◌≤◌, OnOk};
-ghost use Rattle.algebra.specs.Layout.{preorder};
+ghost use Rattle.std.specs.Prelude.{◌≡◌, ◌<◌, ◌≤◌, ◌^◌, length as length_of, OnOk};
+ghost use Rattle.algebra.specs.Layout.{view, preorder};
 ghost use Rattle.algebra.specs.Score.{Score, score_length};
 ghost use Rattle.refusals.specs.Checks.{all};
 ghost use Rattle.building.specs.Sizes.{size_limits, sized};
 
 use algebra::limits::{LONGEST, MOST_NODES, MOST_PRIMITIVES};
+use algebra::node::Node;
 use cuts::count::count_primitives;
 use kinds::kind::Kind;
-use nodes::list::NodeList;
 use refusals::refusal::Refusal;
 
 // How many nodes and primitives a score has, and how long it is.
@@ -33,11 +33,11 @@ pub fn limits(size: Size) -> Result<(), Refusal>
     Ok(())
 }
 
-// The size of the score of a length that a list of nodes is, where it is within the limits.
-pub fn size_within<K: Kind>(nodes: &NodeList<'_, K>, length: u32) -> Result<Size, Refusal>
-    ensures { (s : Score) → nodes.now ≡ preorder s → length ≡ score_length K.Kind.model s → result ≡ sized K.Kind.model s }
+// The size of the score of a length that a row is, where it is within the limits.
+pub fn size_within<K: Kind>(row: &[Node<K>], length: u32) -> Result<Size, Refusal>
+    requires { length_of row.now < 2 ^ 32 }
+    ensures { (s : Score) → view K.Kind.numbers_of row.now ≡ preorder s → length ≡ score_length K.Kind.model s → result ≡ sized K.Kind.model s }
 {
-    let row = nodes.as_slice();
     let size = Size {
         nodes: row.len() as u32,
         primitives: count_primitives(row),

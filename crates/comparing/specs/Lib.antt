@@ -1,2 +1,3 @@
 pub mod Order
 pub mod Comparisons
+pub mod Texts

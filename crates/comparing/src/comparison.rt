@@ -1,4 +1,7 @@
 // What comparing two scores answers.
+ghost use Rattle.std.specs.Prelude.{Some};
+ghost use Rattle.comparing.specs.Texts.{comparison_text};
+
 use normal::placed::PlacedNumbers;
 use std::fmt;
 
@@ -18,6 +21,8 @@ pub enum Comparison {
 }
 
 impl fmt::Display for Comparison {
+    ghost output = { λ c. Some (comparison_text c) };
+
     fn fmt<W: fmt::Write>(&self, f: &mut fmt::Formatter<W>) -> fmt::Result {
         match *self {
             Comparison::Same => f.write_str("same"),

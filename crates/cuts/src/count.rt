@@ -1,5 +1,5 @@
 // How many nodes and primitives come out of a cut or a reversal.
-ghost use Rattle.std.specs.Prelude.{◌≡◌, ◌≤◌, length};
+ghost use Rattle.std.specs.Prelude.{◌≡◌, ◌<◌, ◌^◌, length};
 ghost use Rattle.algebra.specs.Cuts.{reversed};
 ghost use Rattle.algebra.specs.Layout.{view, preorder};
 ghost use Rattle.algebra.specs.Score.{Score as Term, nodes, primitives};
@@ -11,7 +11,7 @@ use nodes::score::{Look, Score};
 
 // How many primitives the score has that a row is.
 pub fn count_primitives<K: Kind>(row: &[Node<K>]) -> u32
-    requires { length row.now ≤ 1023 }
+    requires { length row.now < 2 ^ 32 }
     ensures { (s : Term) → view K.Kind.numbers_of row.now ≡ preorder s → result ≡ primitives s }
 {
     row.iter()

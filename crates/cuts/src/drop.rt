@@ -13,8 +13,9 @@ use nodes::score::{Look, Score};
 
 // Puts what follows the first ticks of a score behind the nodes of a list.
 pub fn drop_into<K: Kind>(score: &Score<'_, K>, ticks: u32, out: &mut NodeList<'_, K>)
-    requires { length out.old + nodes (dropped K.Kind.model ticks score.now) ≤ 1023 }
-    ensures { out.new ≡ out.old ++ preorder (dropped K.Kind.model ticks score.now) }
+    requires { length out.old.items + nodes (dropped K.Kind.model ticks score.now) ≤ out.old.room }
+    ensures items { out.new.items ≡ out.old.items ++ preorder (dropped K.Kind.model ticks score.now) }
+    ensures room { out.new.room ≡ out.old.room }
 {
     if ticks == 0 {
         return out.push_score(score);

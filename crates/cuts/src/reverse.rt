@@ -13,8 +13,9 @@ use nodes::score::{Look, Score};
 
 // Puts what comes before a part beside one of another length behind the nodes of a list.
 fn pad_into<K: Kind>(own: u32, other: u32, out: &mut NodeList<'_, K>)
-    requires { length out.old + length (padding other own) ≤ 1023 }
-    ensures { out.new ≡ out.old ++ padding other own }
+    requires { length out.old.items + length (padding other own) ≤ out.old.room }
+    ensures items { out.new.items ≡ out.old.items ++ padding other own }
+    ensures room { out.new.room ≡ out.old.room }
 {
     if own < other {
         out.push(Node::Sequence);
@@ -24,8 +25,9 @@ fn pad_into<K: Kind>(own: u32, other: u32, out: &mut NodeList<'_, K>)
 
 // Puts the reverse of a score behind the nodes of a list.
 pub fn reverse_into<K: Kind>(score: &Score<'_, K>, out: &mut NodeList<'_, K>)
-    requires { length out.old + nodes (reversed K.Kind.model score.now) ≤ 1023 }
-    ensures { out.new ≡ out.old ++ preorder (reversed K.Kind.model score.now) }
+    requires { length out.old.items + nodes (reversed K.Kind.model score.now) ≤ out.old.room }
+    ensures items { out.new.items ≡ out.old.items ++ preorder (reversed K.Kind.model score.now) }
+    ensures room { out.new.room ≡ out.old.room }
 {
     match score.look() {
         Look::Rest(duration) => out.push(Node::Rest(duration)),

@@ -13,8 +13,9 @@ use nodes::score::{Look, Score};
 
 // Puts the first ticks of a score behind the nodes of a list.
 pub fn take_into<K: Kind>(score: &Score<'_, K>, ticks: u32, out: &mut NodeList<'_, K>)
-    requires { length out.old + nodes (taken K.Kind.model ticks score.now) ≤ 1023 }
-    ensures { out.new ≡ out.old ++ preorder (taken K.Kind.model ticks score.now) }
+    requires { length out.old.items + nodes (taken K.Kind.model ticks score.now) ≤ out.old.room }
+    ensures items { out.new.items ≡ out.old.items ++ preorder (taken K.Kind.model ticks score.now) }
+    ensures room { out.new.room ≡ out.old.room }
 {
     if score.length() <= ticks {
         return out.push_score(score);

@@ -6,25 +6,28 @@ use crate::item::Item;
 use algebra::limits::MOST_NODES;
 use algebra::node::Node;
 use algebra::numbers::Numbers;
-use arrayvec::ArrayVec;
 use std::marker::Model;
 
 // The items that a draft has room for: one more than a score may have nodes.
 const ROOM: usize = MOST_NODES + 1;
 
-// The nodes of a term, in preorder, as far as there is room.
+// The nodes of a term, in preorder, as far as there is room. An array and a count, and no list of fixed room of the kit's,
+// which writes over each item that is taken out: to clear a draft costs the same however much is in it.
 #[derive(Drop)]
 pub struct Draft {
-    items: ArrayVec<Item, ROOM>,
+    items: [Item; ROOM],
+    count: usize,
 }
 
 impl Model for Draft {
-    ghost use Rattle.std.specs.Prelude.{List};
+    ghost use Rattle.std.specs.Prelude.{◌≤◌, List, take};
     ghost use Rattle.grammar.specs.declared.item.Item.{Item};
 
     ghost Value = { List Item };
 
-    ghost view = { λ d. d.items.items };
+    ghost view = { λ d. take d.count d.items };
+
+    ghost invariant = { λ d. d.count ≤ 1024 };
 }
 
 impl Draft {
@@ -32,8 +35,13 @@ impl Draft {
     pub fn new() -> Draft
         ensures { result ≡ [] }
     {
+        let blank = Item {
+            node: Node::Rest(0),
+            offset: 0,
+        };
         Draft {
-            items: ArrayVec::new(),
+            items: [blank; ROOM],
+            count: 0,
         }
     }
 
@@ -41,7 +49,7 @@ impl Draft {
     pub fn clear(&mut self)
         ensures { self.new ≡ [] }
     {
-        self.items.clear();
+        self.count = 0;
     }
 
     // How many items there are.
@@ -49,7 +57,7 @@ impl Draft {
         ensures count { result ≡ length self.now }
         ensures fits { result ≤ 1024 }
     {
-        self.items.len()
+        self.items().len()
     }
 
     // The items.
@@ -57,22 +65,25 @@ impl Draft {
         ensures same { result.now ≡ self.now }
         ensures fits { length result.now ≤ 1024 }
     {
-        self.items.as_slice()
+        &self.items[..self.count]
     }
 
     // Puts an item behind the others, where there is room.
     pub fn push(&mut self, item: Item)
         ensures { self.new ≡ take 1024 (self.old ++ (item ∷ [])) }
     {
-        let _ = self.items.try_push(item);
+        if self.count < ROOM {
+            self.items[self.count] = item;
+            self.count += 1;
+        }
     }
 
     // Puts another node at an item, where there is such an item.
     pub fn set_node(&mut self, at: usize, node: Node<Numbers>)
         ensures { self.new ≡ with_node self.old at node }
     {
-        if let Some(item) = self.items.get_mut(at) {
-            item.node = node;
+        if at < self.count {
+            self.items[at].node = node;
         }
     }
 }

@@ -15,7 +15,7 @@ use Rattle.nodes.specs.Held.{Held}
 use Rattle.nodes.specs.Spans.{no_span, span_of, Spanned}
 use Rattle.nodes.specs.Standing.{standing_score, Limited, Stands, Tabled, Standing}
 use Rattle.nodes.proofs.Lengths.{legal_row, length_held}
-use Rattle.nodes.proofs.Parts.{Within, here, sequence_left, sequence_right, parallel_left, parallel_right, part_primitives, place_end, length_preorder, find, score_place}
+use Rattle.nodes.proofs.Parts.{some_node, Within, here, sequence_left, sequence_right, parallel_left, parallel_right, part_primitives, place_end, length_preorder, find, score_place}
 use Rattle.nodes.proofs.Shapes.{score_preorder}
 use Rattle.nodes.proofs.Readings.{long, at, begins, ends_inside, nodes_there, deeper}
 use Rattle.nodes.proofs.Tables.{nodes_listed}
@@ -67,6 +67,9 @@ stands_small f row h = omega (arith, stands_long f row h, h.limited.small)
 module _ (K : KindModel) {P : Type 0} (f : P → Numbers) (row : List (Node P)) (spans : List Span) (t : Tabled K f row spans) where
   pub nodes_long : length row ≡ nodes (standing_score f row)
   nodes_long = stands_long f row t.stands
+
+  pub some_row : 0 < length row
+  some_row = omega (arith, nodes_long, some_node (standing_score f row))
 
   pub limited_as : {s : Score} → standing_score f row ≡ s → Limited K s
   limited_as e = subst (Limited K) e t.stands.limited

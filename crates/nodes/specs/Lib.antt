@@ -2,6 +2,7 @@ pub mod Rows
 pub mod Held
 pub mod Pairs
 pub mod Spans
+pub mod Sights
 pub mod Joins
 pub mod Codes
 pub mod Standing

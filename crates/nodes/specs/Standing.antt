@@ -14,7 +14,7 @@ abbrev pub standing_score : {P : Type 0} → (P → Numbers) → List (Node P) �
 standing_score f row = score_of (view f row)
 
 -- What a score that stands in nodes keeps to: its primitives are of the kind, it has at most 1,023 nodes and 170 primitives,
--- and it is at most 16,777,215 ticks long with each of those counted as 0, of which none is longer than 65,535.
+-- and it is at most 27,918,165 ticks long, which is 16,777,215 and 65,535 for each of 170 primitives.
 pub record Limited (K : KindModel) (s : Score) : Type 0 where
   pub legal : Legal K s
   pub small : nodes s ≤ 1023

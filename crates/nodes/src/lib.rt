@@ -3,8 +3,11 @@
 
 pub mod join;
 pub mod list;
+pub mod measure;
 pub mod measured;
 pub mod rows;
 pub mod score;
+pub mod sight;
 pub mod span;
 pub mod spans;
+pub mod write;

@@ -11,7 +11,7 @@ use algebra::node::Node;
 use kinds::kind::Kind;
 use std::marker::Model;
 
-// A row of nodes that is one score within the limits of a place, with the spans of its parts.
+// A row of nodes that is one score within `Limited`, which is wider than the limits of a place, with the spans of its parts.
 #[derive(Drop)]
 pub struct Measured<'a, K: Kind> {
     nodes: &'a [Node<K>],

@@ -2,18 +2,19 @@
 ghost use Rattle.std.specs.Prelude.{◌≡◌, ◌+◌, ◌<◌, ◌≤◌};
 ghost use Rattle.algebra.specs.Layout.{view, preorder, score_at};
 ghost use Rattle.algebra.specs.Score.{nodes, score_length};
-ghost use Rattle.nodes.specs.Scores.{Shows, Parts};
+ghost use Rattle.nodes.specs.Scores.{Shows};
 ghost use Rattle.nodes.specs.Standing.{Limited};
 
 use crate::join::Join;
 use crate::rows::some_of;
+use crate::sight;
 use crate::span::Span;
 use algebra::node::Node;
 use kinds::kind::Kind;
 use std::marker::Model;
 
-// A score within the limits of a place, or a part of one.
-#[derive(Drop)]
+// A score within `Limited`, which is wider than the limits of a place, or a part of one.
+#[derive(Clone, Drop)]
 pub struct Score<'a, K: Kind> {
     pub(crate) nodes: &'a [Node<K>],
     // how many nodes the score that begins at each node has, and its length
@@ -35,12 +36,12 @@ impl<'a, K: Kind> Model for Score<'a, K> {
     ghost invariant = { λ s. Standing K.Kind.model K.Kind.numbers_of s.nodes.now s.spans.now };
 }
 
-// What a score is: a rest, a primitive, or two scores joined.
-#[derive(Drop)]
-pub enum Look<'a, K: Kind> {
+// What a score is: a rest, a primitive, or two parts joined, which are scores or the nodes where they begin.
+#[derive(Clone, Copy, Drop)]
+pub enum Look<K, P> {
     Rest(u32),
     Primitive(K),
-    Pair(Join, Score<'a, K>, Score<'a, K>),
+    Pair(Join, P, P),
 }
 
 impl<'a, K: Kind> Score<'a, K> {
@@ -65,30 +66,24 @@ impl<'a, K: Kind> Score<'a, K> {
         ensures nodes { view K.Kind.numbers_of result.now ≡ preorder self.now }
         ensures limited { Limited K.Kind.model self.now }
     {
-        self.nodes
+        let nodes = self.nodes;
+        nodes
     }
 
     // What the score is.
-    pub fn look(&self) -> Look<'a, K>
+    pub fn look(&self) -> Look<K, Score<'a, K>>
         ensures is { Shows K.Kind.numbers_of self.now result }
         ensures limited { Limited K.Kind.model self.now }
     {
-        match self.nodes[0] {
-            Node::Rest(ticks) => Look::Rest(ticks),
-            Node::Primitive(primitive) => Look::Primitive(primitive),
-            Node::Sequence => self.pair(Join::Sequence),
-            Node::Parallel => self.pair(Join::Parallel),
+        match sight::look(self.nodes, self.spans, 0) {
+            Look::Rest(ticks) => Look::Rest(ticks),
+            Look::Primitive(primitive) => Look::Primitive(primitive),
+            Look::Pair(join, first, second) => {
+                let left = self.part(first);
+                let right = self.part(second);
+                Look::Pair(join, left, right)
+            }
         }
-    }
-
-    // The two parts of a score that is joined so.
-    fn pair(&self, join: Join) -> Look<'a, K>
-        requires { Parts join self.now }
-        ensures { Shows K.Kind.numbers_of self.now result }
-    {
-        let left = self.part(1);
-        let right = self.part(1 + left.count());
-        Look::Pair(join, left, right)
     }
 
     // The score that begins at a node.

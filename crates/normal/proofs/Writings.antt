@@ -8,6 +8,7 @@ use Rattle.algebra.specs.declared.node.Node.TheVariants.{Parallel}
 use Rattle.algebra.specs.Kind.{KindModel, LegalNumbers}
 use Rattle.algebra.specs.Layout.{preorder}
 use Rattle.algebra.specs.Score.{Placed, nodes}
+use Rattle.nodes.specs.Lists.{Listed}
 use Rattle.nodes.proofs.Lists.{put_long, put_both}
 use Rattle.nodes.proofs.Parts.{length_preorder}
 use Rattle.normal.specs.declared.placed.PlacedNumbers.{PlacedNumbers}
@@ -34,8 +35,13 @@ module _ (K : KindModel) (n : ℕ) where
   closed (y ∷ []) x = refl
   closed (y ∷ (z ∷ xs)) x = ap (λ zs. Parallel ∷ (preorder (line_of K n y) ++ zs)) (closed (z ∷ xs) x)
 
--- a list of placed primitives, of which the last stands apart from the rest
-module _ (K : KindModel) (xs : List Placed) (items rest : List PlacedNumbers) (last : PlacedNumbers) (placed : all_placed items ≡ xs) (is : items ≡ rest ++ (last ∷ [])) where
+-- the lines of placed primitives stand so in a list behind what it held, in the same room
+pub record LinesStand (K : KindModel) (n : ℕ) (old new : Listed) (xs : List PlacedNumbers) : Type 0 where
+  pub items : new.items ≡ old.items ++ opened K n (all_placed xs)
+  pub room : new.room ≡ old.room
+
+-- placed primitives, of which the last stands apart from the rest
+module _ (K : KindModel) (items rest : List PlacedNumbers) (last : PlacedNumbers) (is : items ≡ rest ++ (last ∷ [])) where
   long : length items ≡ length rest + 1
   long = ap length is ∙ length-append rest (last ∷ [])
 
@@ -51,27 +57,31 @@ module _ (K : KindModel) (xs : List Placed) (items rest : List PlacedNumbers) (l
         (legal_at K items i d (omega (arith, long)) legal)
 
   module _ (n : ℕ) where
-    all : opened K n (all_placed rest) ++ preorder (line_of K n (placed_of last)) ≡ preorder (lines_of K n xs)
-    all = closed K n (all_placed rest) (placed_of last) ∙ ap (λ ys. preorder (lines_of K n ys)) (sym (ap all_placed is ∙ map-append placed_of rest (last ∷ [])) ∙ placed)
+    all : opened K n (all_placed rest) ++ preorder (line_of K n (placed_of last)) ≡ preorder (lines_of K n (all_placed items))
+    all = closed K n (all_placed rest) (placed_of last) ∙ ap (λ ys. preorder (lines_of K n ys)) (sym (ap all_placed is ∙ map-append placed_of rest (last ∷ [])))
 
-    -- some lines stand in a list behind what it held
-    module _ (old new : List (Node Numbers)) (k : ℕ) (stand : new ≡ old ++ opened K n (all_placed (take k rest))) where
+    -- some lines stand in a list behind what it held, in the same room
+    module _ (old new : Listed) (k : ℕ) (stand : LinesStand K n old new (take k rest)) where
       -- there is room for the others
-      pub room : k ≤ length rest → length old + nodes (lines_of K n xs) ≤ 1023 → length new + 6 * (length rest - k) + 5 ≤ 1023
+      pub room : k ≤ length rest → length old.items + nodes (lines_of K n (all_placed items)) ≤ old.room → length new.items + 6 * (length rest - k) + 5 ≤ new.room
       room h fits =
           let here = length_opened K n (all_placed (take k rest)) in
           let taken = length-map (take k rest) placed_of in
           let there = length_opened K n (all_placed rest) in
           let ends = length-append (opened K n (all_placed rest)) (preorder (line_of K n (placed_of last))) in
-          omega (arith, put_long old _ stand, length-take-le k rest h, length-map rest placed_of, ap length all, length_preorder (lines_of K n xs))
+          omega (arith, put_long old.items _ stand.items, stand.room, length-take-le k rest h, length-map rest placed_of, ap length all, length_preorder (lines_of K n (all_placed items)))
 
-      pub one_more : (d : PlacedNumbers) → k < length rest → {next last : List (Node Numbers)} → next ≡ new ++ (Parallel ∷ []) → last ≡ next ++ preorder (line_of K n (placed_of (get_or rest k d)))
-          → last ≡ old ++ opened K n (all_placed (take (k + 1) rest))
-      one_more d h a b =
-          put_both old (opened K n (all_placed (take k rest))) (Parallel ∷ preorder (line_of K n (placed_of (get_or rest k d)))) stand (put_both new (Parallel ∷ []) _ a b)
-          ∙ ap (λ ys. old ++ ys) (sym (ap (opened K n) (map_more placed_of rest k d h) ∙ opened_more K n (all_placed (take k rest)) (placed_of (get_or rest k d))))
+      pub one_more : (d : PlacedNumbers) → k < length rest → {next last : Listed} → next.items ≡ new.items ++ (Parallel ∷ []) → next.room ≡ new.room
+          → last.items ≡ next.items ++ preorder (line_of K n (placed_of (get_or rest k d))) → last.room ≡ next.room → LinesStand K n old last (take (k + 1) rest)
+      one_more d h a r b q =
+          record {
+            items =
+                put_both old.items (opened K n (all_placed (take k rest))) (Parallel ∷ preorder (line_of K n (placed_of (get_or rest k d)))) stand.items (put_both new.items (Parallel ∷ []) _ a b)
+                ∙ ap (λ ys. old.items ++ ys) (sym (ap (opened K n) (map_more placed_of rest k d h) ∙ opened_more K n (all_placed (take k rest)) (placed_of (get_or rest k d))));
+            room = q ∙ r ∙ stand.room;
+          }
 
-      pub the_last : length rest ≤ k → {end : List (Node Numbers)} → end ≡ new ++ preorder (line_of K n (placed_of last)) → end ≡ old ++ preorder (lines_of K n xs)
+      pub the_last : length rest ≤ k → {end : List (Node Numbers)} → end ≡ new.items ++ preorder (line_of K n (placed_of last)) → end ≡ old.items ++ preorder (lines_of K n (all_placed items))
       the_last h e =
-          put_both old (opened K n (all_placed rest)) (preorder (line_of K n (placed_of last))) (stand ∙ ap (λ ys. old ++ opened K n (all_placed ys)) (take_all k rest h)) e
-          ∙ ap (λ ys. old ++ ys) all
+          put_both old.items (opened K n (all_placed rest)) (preorder (line_of K n (placed_of last))) (stand.items ∙ ap (λ ys. old.items ++ opened K n (all_placed ys)) (take_all k rest h)) e
+          ∙ ap (λ ys. old.items ++ ys) all

@@ -1,4 +1,4 @@
--- What the lines of placed primitives are in a row.
+-- The line of a placed primitive, and the lines of several together, as scores.
 use Rattle.std.specs.Prelude.{ℕ, List, map}
 use Rattle.algebra.specs.Kind.{KindModel}
 use Rattle.algebra.specs.Score.{Score, Placed}

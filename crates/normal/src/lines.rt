@@ -3,10 +3,9 @@ ghost use Rattle.std.specs.Prelude.{◌≡◌, ◌+◌, ◌≤◌, ◌++◌, len
 ghost use Rattle.algebra.specs.Kind.{LegalNumbers};
 ghost use Rattle.algebra.specs.Layout.{preorder};
 ghost use Rattle.algebra.specs.Score.{nodes};
-ghost use Rattle.normal.specs.Placing.{placed_of};
+ghost use Rattle.normal.specs.Placing.{placed_of, all_placed, AllLegal};
 ghost use Rattle.normal.specs.Writing.{line_of, lines_of};
 
-use crate::meaning::Meaning;
 use crate::placed::PlacedNumbers;
 use algebra::node::Node;
 use algebra::numbers::Numbers;
@@ -22,10 +21,11 @@ pub fn primitive_of<K: Kind>(numbers: Numbers) -> K
 }
 
 // Puts the line of a placed primitive in a score of a length behind the nodes of a list.
-fn write_line<K: Kind>(length: u32, item: PlacedNumbers, out: &mut NodeList<'_, K>)
+pub fn write_line<K: Kind>(length: u32, item: PlacedNumbers, out: &mut NodeList<'_, K>)
     requires legal { LegalNumbers K.Kind.model item.numbers }
-    requires room { length_of out.old + 5 ≤ 1023 }
-    ensures { out.new ≡ out.old ++ preorder (line_of K.Kind.model length (placed_of item)) }
+    requires room { length_of out.old.items + 5 ≤ out.old.room }
+    ensures items { out.new.items ≡ out.old.items ++ preorder (line_of K.Kind.model length (placed_of item)) }
+    ensures room { out.new.room ≡ out.old.room }
 {
     let primitive = primitive_of::<K>(item.numbers);
     let left = length.saturating_sub(item.onset);
@@ -38,18 +38,20 @@ fn write_line<K: Kind>(length: u32, item: PlacedNumbers, out: &mut NodeList<'_, 
 }
 
 // Puts the lines of placed primitives in a score of a length, together in their order, behind the nodes of a list.
-pub fn write_lines<K: Kind>(meaning: &Meaning<K>, out: &mut NodeList<'_, K>)
-    requires { length_of out.old + nodes (lines_of K.Kind.model meaning.now.length meaning.now.placed) ≤ 1023 }
-    ensures { out.new ≡ out.old ++ preorder (lines_of K.Kind.model meaning.now.length meaning.now.placed) }
+pub fn write_lines<K: Kind>(length: u32, placed: &[PlacedNumbers], out: &mut NodeList<'_, K>)
+    requires legal { AllLegal K.Kind.model (all_placed placed.now) }
+    requires room { length_of out.old.items + nodes (lines_of K.Kind.model length (all_placed placed.now)) ≤ out.old.room }
+    ensures items { out.new.items ≡ out.old.items ++ preorder (lines_of K.Kind.model length (all_placed placed.now)) }
+    ensures room { out.new.room ≡ out.old.room }
 {
-    match meaning.placed.items().split_last() {
-        None => out.push(Node::Rest(meaning.length)),
+    match placed.split_last() {
+        None => out.push(Node::Rest(length)),
         Some((last, rest)) => {
             for item in rest {
                 out.push(Node::Parallel);
-                write_line(meaning.length, *item, out);
+                write_line(length, *item, out);
             }
-            write_line(meaning.length, *last, out);
+            write_line(length, *last, out);
         }
     }
 }

@@ -21,6 +21,7 @@ impl<K: Kind> Meaning<K> {
     pub fn of(score: &Score<'_, K>) -> Self
         ensures length { result.length ≡ score_length K.Kind.model score.now }
         ensures placed { result.placed ≡ placed_in K.Kind.model score.now }
+        ensures count { length result.placed ≡ primitives score.now }
         ensures limited { Limited K.Kind.model score.now }
     {
         let length = score.length();

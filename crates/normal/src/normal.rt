@@ -12,8 +12,10 @@ use nodes::score::Score;
 
 // Puts the normal form of a score behind the nodes of a list.
 pub fn normalise_into<K: Kind>(score: &Score<'_, K>, out: &mut NodeList<'_, K>)
-    requires { length out.old + nodes (normal K.Kind.model score.now) ≤ 1023 }
-    ensures { out.new ≡ out.old ++ preorder (normal K.Kind.model score.now) }
+    requires { length out.old.items + nodes (normal K.Kind.model score.now) ≤ out.old.room }
+    ensures items { out.new.items ≡ out.old.items ++ preorder (normal K.Kind.model score.now) }
+    ensures room { out.new.room ≡ out.old.room }
 {
-    write_lines(&Meaning::of(score), out);
+    let meaning = Meaning::of(score);
+    write_lines(meaning.length, meaning.placed.items(), out);
 }

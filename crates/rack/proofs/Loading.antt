@@ -1,5 +1,5 @@
 -- A loaded score fits the segment of a place, and what is noted of it is true.
-use Rattle.std.proofs.Common.{◌≡◌, ℕ, ◌+◌, ◌*◌, ◌<◌, ◌≤◌, List, length, ap, arith}
+use Rattle.std.proofs.Common.{ℕ, ◌+◌, ◌*◌, ◌<◌, ◌≤◌, List, length, ap, arith}
 use Rattle.algebra.specs.Kind.{KindModel}
 use Rattle.algebra.specs.Limits.{Holdable}
 use Rattle.grammar.specs.declared.item.Item.{Item}

@@ -5,7 +5,7 @@ use Rattle.std.proofs.lemmas.List.{same_lists, length-map, length-set, get_or-se
 use Rattle.algebra.specs.declared.numbers.Numbers.{Numbers}
 use Rattle.algebra.specs.declared.node.Node.{Node}
 use Rattle.algebra.specs.Kind.{KindModel}
-use Rattle.algebra.specs.Score.{Score, nodes}
+use Rattle.algebra.specs.Score.{Score}
 use Rattle.algebra.specs.Limits.{Fits}
 use Rattle.algebra.specs.Layout.{seen, preorder, view, score_of}
 use Rattle.nodes.specs.Rows.{overlaid}

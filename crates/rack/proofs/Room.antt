@@ -1,5 +1,5 @@
 -- Room for the nodes of a score may be had where the nodes of a place are.
-use Rattle.std.proofs.Common.{ℕ, ◌+◌, ◌*◌, ◌<◌, ◌≤◌, List, length, mul-le-mul_right, arith}
+use Rattle.std.proofs.Common.{ℕ, ◌*◌, ◌<◌, ◌≤◌, List, length, mul-le-mul_right, arith}
 use Rattle.rack.specs.Places.{number}
 use Rattle.rack.proofs.Shelves.{segment_within}
 

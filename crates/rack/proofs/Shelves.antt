@@ -1,25 +1,25 @@
 -- What a rack's places hold, by its nodes and its notes.
-use Rattle.std.proofs.Common.{◌≡◌, ℕ, zero, suc, ◌+◌, ◌*◌, ◌/◌, ◌<◌, ◌≤◌, min, cond, not, List, [], ◌∷◌, ◌++◌, map, length, get_or, take, drop, replicate, is_some, Some, None, Ok, Err, Option, sym, refl, ap, ◌∙◌, subst, ⊎_elim, arith}
+use Rattle.std.proofs.Common.{◌≡◌, ℕ, zero, suc, ◌+◌, ◌*◌, ◌/◌, ◌<◌, ◌≤◌, not, List, [], ◌∷◌, ◌++◌, map, length, get_or, take, drop, replicate, is_some, true, Some, None, Ok, Err, Option, sym, refl, ap, ◌∙◌, subst, ⊎_elim, arith}
 use Rattle.std.specs.List.{range_with_len}
 use Rattle.std.proofs.lemmas.List.FromFn.{length-map-range_with_len, get_or-map-range_with_len}
 use Rattle.std.proofs.lemmas.Bool.{cases_lt}
-use Rattle.std.proofs.lemmas.Bool.Decides.{nat_tests}
-use Rattle.std.proofs.lemmas.List.{length-map, take-map, drop-map}
+use Rattle.std.proofs.lemmas.List.{take-map, drop-map}
 use Rattle.algebra.specs.declared.numbers.Numbers.{Numbers}
 use Rattle.algebra.specs.declared.node.Node.{Node}
-use Rattle.algebra.specs.Kind.{KindModel}
-use Rattle.algebra.specs.Score.{Score}
-use Rattle.algebra.specs.Layout.{seen, view, score_of}
+use Rattle.algebra.specs.Kind.{KindModel, LengthLaws}
+use Rattle.algebra.specs.Score.{Score, nodes}
+use Rattle.algebra.specs.Layout.{seen, view, preorder, score_of}
 use Rattle.algebra.specs.Limits.{Fits, Holdable}
-use Rattle.nodes.specs.Standing.{Limited}
+use Rattle.nodes.specs.Standing.{standing_score}
+use Rattle.nodes.proofs.Lengths.{legal_row}
 use Rattle.nodes.proofs.Shapes.{score_preorder}
-use Rattle.refusals.specs.declared.refusal.Refusal.TheVariants.{NoSuchPlace, EmptyPlace, FullPlace}
+use Rattle.refusals.specs.declared.refusal.Refusal.TheVariants.{EmptyPlace, FullPlace}
 use Rattle.refusals.specs.declared.refusal.Refusal.{Refusal}
 use Rattle.refusals.specs.Checks.{Check, passed, unless, all}
 use Rattle.rack.specs.declared.place.Place.{Place}
 use Rattle.rack.specs.Places.{number, used, place_at, held_at, shelf, Noted, Sound}
 use Rattle.rack.specs.Shelves.{Shelf, at}
-use Rattle.rack.specs.Checks.{known, holding, vacant}
+use Rattle.rack.specs.Checks.{holding, vacant}
 
 -- the segment of a place lies within the nodes
 pub segment_within : {X : Type 0} (ns : List X) (p : ℕ) → p < number ns → p * 1023 + 1023 ≤ length ns
@@ -65,6 +65,20 @@ module _ {P : Type 0} (f : P → Numbers) (ns : List (Node P)) (places : List (O
   pub at_full : (K : KindModel) (p : ℕ) (place : Place) → place_at places p ≡ Some place → (n : Noted K f ns p place) → at (shelf f ns places) p ≡ Some n.score
   at_full K p place e n = at_any p None n.there ∙ ap (held_at (view f ns) p) e ∙ ap (λ xs. Some (score_of xs)) n.stands ∙ ap Some (score_preorder n.score)
 
+pub some_same : {X : Type 0} {x y : X} → Some x ≡ Some y → x ≡ y
+some_same e = cc
+
+pub none_some : {X A : Type 0} {x : X} → None ≡ Some x → A
+none_some e = absurd (grind arith)
+
+-- a place that is told to be empty holds nothing
+pub vacant_none : (held : Shelf) (p : ℕ) (u : Unit {0}) → Ok u ≡ vacant held p → at held p ≡ None
+vacant_none held p u h = by_score (at held p) refl h
+  where
+    by_score : (o : Option Score) → at held p ≡ o → Ok u ≡ unless (not (is_some o)) (FullPlace p) → at held p ≡ None
+    by_score None e h = e
+    by_score (Some s) e h = absurd (grind arith)
+
 -- a rack at its start
 none_noted : (n p : ℕ) → place_at (replicate n None) p ≡ None
 none_noted zero p = refl
@@ -88,6 +102,39 @@ all_first [] ys e h = absurd (grind arith)
 all_first (Ok u ∷ xs) ys e h = all_first xs ys e h
 all_first (Err e' ∷ xs) ys e h = h
 
--- a score that a place has room for may be held
-pub holdable : (K : KindModel) {s t : Score} → s ≡ t → Limited K t → Fits K t → Holdable K s
-holdable K e l f = subst (Holdable K) (sym e) (record { legal = l.legal; fits = f })
+-- the score of nodes of a kind that a place has room for may be held
+pub row_holdable : (K : KindModel) (laws : LengthLaws K) {P : Type 0} (f : P → Numbers) → ((x : P) → K.legal (f x) ≡ true) → (row : List (Node P)) → {s : Score} → s ≡ standing_score f row → Fits K (standing_score f row) → Holdable K s
+row_holdable K laws f ok row e fits = subst (Holdable K) (sym e) (record { legal = legal_row K laws f ok row; fits = fits })
+
+-- where a score is held, one is noted that stands there
+module _ {P : Type 0} (K : KindModel) (f : P → Numbers) (ns : List (Node P)) (places : List (Option Place)) (sound : Sound K f ns places) where
+  pub record Standing (p : ℕ) (s : Score) : Type 0 where
+    pub place : Place
+    pub noted : place_at places p ≡ Some place
+    pub there : p < number ns
+    pub stands : used (view f ns) p (nodes s) ≡ preorder s
+    pub fits : Fits K s
+
+  pub standing : (p : ℕ) (s : Score) → at (shelf f ns places) p ≡ Some s → Standing p s
+  standing p s e = by_note (place_at places p) refl
+    where
+      by_note : (o : Option Place) → place_at places p ≡ o → Standing p s
+      by_note None q = none_some (sym (at_empty f ns places p q) ∙ e)
+      by_note (Some place) q =
+          let n = sound.true p place q in
+          let is : n.score ≡ s = some_same (sym (at_full f ns places K p place q n) ∙ e) in
+          record {
+            place = place;
+            noted = q;
+            there = n.there;
+            stands = ap (used (view f ns) p) (sym (n.counts.nodes_are ∙ ap nodes is)) ∙ n.stands ∙ ap preorder is;
+            fits = subst (Fits K) is n.fits;
+          }
+
+  -- so it may be held
+  pub held_holdable : LengthLaws K → ((x : P) → K.legal (f x) ≡ true) → (p : ℕ) (s : Score) → at (shelf f ns places) p ≡ Some s → Holdable K s
+  held_holdable laws ok p s e =
+      let x = standing p s e in
+      let row = take (nodes s) (drop (p * 1023) ns) in
+      let is : standing_score f row ≡ s = ap score_of (lent_used f ns p (nodes s) refl ∙ x.stands) ∙ score_preorder s in
+      row_holdable K laws f ok row (sym is) (subst (Fits K) (sym is) x.fits)

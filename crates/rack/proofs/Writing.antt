@@ -5,7 +5,7 @@ use Rattle.algebra.specs.Kind.{KindModel, KindLaws}
 use Rattle.algebra.specs.Score.{Score}
 use Rattle.algebra.specs.Limits.{Holdable}
 use Rattle.refusals.specs.declared.refusal.Refusal.{Refusal}
-use Rattle.grammar.specs.Loads.{Loads, file_bytes}
+use Rattle.grammar.specs.Loads.{file_bytes}
 use Rattle.grammar.proofs.Standing.{one_answer, read_exactly, written_back}
 use Rattle.writing.specs.Writes.{written_answer, written_over}
 use Rattle.rack.specs.Calls.{load_answer, put, score_read}

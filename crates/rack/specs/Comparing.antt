@@ -1,7 +1,7 @@
 -- What comparing two places answers.
-use Rattle.std.specs.Prelude.{◌≡◌, ℕ, ◌≤◌, ◌↔◌, List, [], ◌∷◌, Ok, Result}
+use Rattle.std.specs.Prelude.{◌≡◌, ℕ, ◌↔◌, List, [], ◌∷◌, Ok, Result}
 use Rattle.algebra.specs.Kind.{KindModel}
-use Rattle.algebra.specs.Score.{Score, score_length}
+use Rattle.algebra.specs.Score.{Score}
 use Rattle.algebra.specs.Rules.{Chain}
 use Rattle.algebra.specs.Compare.{Answer, Says, compared}
 use Rattle.refusals.specs.declared.refusal.Refusal.{Refusal}

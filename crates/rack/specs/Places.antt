@@ -1,5 +1,5 @@
 -- Where scores stand in the nodes of a rack: each place has a segment of 1,023 nodes, and a score stands at its front.
-use Rattle.std.specs.Prelude.{◌≡◌, ℕ, ◌*◌, ◌/◌, ◌<◌, min, List, length, map, take, drop, Some, None, Option, slice_index_or}
+use Rattle.std.specs.Prelude.{◌≡◌, ℕ, ◌+◌, ◌*◌, ◌/◌, ◌<◌, ◌≤◌, ◌⊎◌, min, List, length, map, take, drop, Some, None, Option, slice_index_or}
 use Rattle.std.specs.List.{range_with_len}
 use Rattle.algebra.specs.declared.numbers.Numbers.{Numbers}
 use Rattle.algebra.specs.declared.node.Node.{Node}
@@ -35,6 +35,10 @@ held_at xs p (Some place) = Some (score_of (used xs p place.nodes))
 -- What the places hold.
 abbrev pub shelf : {P : Type 0} → (P → Numbers) → List (Node P) → List (Option Place) → List (Option Score)
 shelf f ns places = map (λ p. held_at (view f ns) p (place_at places p)) (range_with_len 0 (number ns))
+
+-- The n nodes from a on lie outside the m nodes from `at` on.
+abbrev pub Apart : ℕ → ℕ → ℕ → ℕ → Type 0
+Apart a n at m = (a + n ≤ at) ⊎ (at + m ≤ a)
 
 -- A note counts a score's nodes and primitives.
 pub record Counts (place : Place) (s : Score) : Type 0 where

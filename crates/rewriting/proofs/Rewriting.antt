@@ -10,6 +10,7 @@ use Rattle.algebra.specs.Kind.{KindModel}
 use Rattle.algebra.specs.Score.{Score, nodes}
 use Rattle.algebra.specs.Layout.{seen, view, preorder, score_at}
 use Rattle.algebra.specs.Rewrite.{other_side, rewritten}
+use Rattle.nodes.specs.Lists.{Listed}
 use Rattle.nodes.proofs.Lists.{put_both}
 use Rattle.refusals.specs.declared.refusal.Refusal.{Refusal}
 use Rattle.refusals.specs.declared.refusal.Refusal.TheVariants.{NoFit, TooMany}
@@ -38,7 +39,7 @@ module _ {A E : Type 0} where
   told_some (Some y) d x was = cc
 
 module _ (K : KindModel) (rule : Rule) (way : Way) (split : ℕ) (s part : Score) (node : ℕ) (inside : node < nodes s) (is : part ≡ score_at (preorder s) node) {P : Type 0} (o : Option (Plan P))
-    (planned : option_map plan_score o ≡ other_side K rule way split part) (xs : List (Node Numbers)) where
+    (planned : option_map plan_score o ≡ other_side K rule way split part) (xs : Listed) where
   -- the rule does not fit
   pub no_fit : (e : Refusal) → Err e ≡ ok_or o (NoFit node) → (r : Check) → r ≡ Err e → Rewrote node (rewritten K rule way split node s) xs xs r
   no_fit e was r told =
@@ -52,18 +53,19 @@ module _ (K : KindModel) (rule : Rule) (way : Way) (split : ℕ) (s part : Score
     size : nodes made.0 ≡ n
     size = let r = made.2 in omega (arith, r.size)
 
-    -- the result has too many nodes
-    pub too_many : 1023 < n → Rewrote node (rewritten K rule way split node s) xs xs (Err (TooMany n))
+    -- the list has no room for the result
+    pub too_many : xs.room < length xs.items + n → Rewrote node (rewritten K rule way split node s) xs xs (Err (TooMany n))
     too_many over = rw made.1 (record { over = omega (arith, size); refusal = ap TooMany (sym size); same = refl })
 
     -- the result is put behind others
-    pub put : n ≤ 1023 → (ys zs ws : List (Node Numbers)) → ys ≡ xs ++ take node (preorder s) → zs ≡ ys ++ preorder (plan_score plan) → ws ≡ zs ++ drop (node + nodes part) (preorder s)
-        → Rewrote node (rewritten K rule way split node s) xs ws passed
-    put room ys zs ws first second third =
+    pub put : length xs.items + n ≤ xs.room → (ys zs ws : Listed) → ys.items ≡ xs.items ++ take node (preorder s) → zs.items ≡ ys.items ++ preorder (plan_score plan)
+        → ws.items ≡ zs.items ++ drop (node + nodes part) (preorder s) → ws.room ≡ xs.room → Rewrote node (rewritten K rule way split node s) xs ws passed
+    put room ys zs ws first second third kept =
         let before = take node (preorder s) in
         let middle = preorder (plan_score plan) in
         let after = drop (node + nodes part) (preorder s) in
         rw made.1 (record {
           room = omega (arith, size);
-          row = put_both xs (before ++ middle) after (put_both xs before middle first second) third ∙ ap (λ us. xs ++ us) (append_assoc before middle after ∙ sym made.2.row);
+          row = put_both xs.items (before ++ middle) after (put_both xs.items before middle first second) third ∙ ap (λ us. xs.items ++ us) (append_assoc before middle after ∙ sym made.2.row);
+          kept = kept;
         })

@@ -12,8 +12,9 @@ use nodes::list::NodeList;
 impl<'a, K: Kind> Piece<'a, K> {
     // Puts the score that a piece stands for behind the nodes of a list.
     fn write_into(&self, out: &mut NodeList<'_, K>)
-        requires { length out.old + nodes (piece_score self.now) ≤ 1023 }
-        ensures { out.new ≡ out.old ++ preorder (piece_score self.now) }
+        requires { length out.old.items + nodes (piece_score self.now) ≤ out.old.room }
+        ensures items { out.new.items ≡ out.old.items ++ preorder (piece_score self.now) }
+        ensures room { out.new.room ≡ out.old.room }
     {
         match self {
             Piece::Rest(ticks) => out.push(Node::Rest(*ticks)),
@@ -25,8 +26,9 @@ impl<'a, K: Kind> Piece<'a, K> {
 impl<'a, K: Kind> Pieces<'a, K> {
     // Puts the score that one piece or two stand for behind the nodes of a list.
     fn write_into(&self, out: &mut NodeList<'_, K>)
-        requires { length out.old + nodes (pieces_score self.now) ≤ 1023 }
-        ensures { out.new ≡ out.old ++ preorder (pieces_score self.now) }
+        requires { length out.old.items + nodes (pieces_score self.now) ≤ out.old.room }
+        ensures items { out.new.items ≡ out.old.items ++ preorder (pieces_score self.now) }
+        ensures room { out.new.room ≡ out.old.room }
     {
         match self {
             Pieces::One(piece) => piece.write_into(out),
@@ -42,8 +44,9 @@ impl<'a, K: Kind> Pieces<'a, K> {
 impl<'a, K: Kind> Plan<'a, K> {
     // Puts the score that a plan stands for behind the nodes of a list.
     pub fn write_into(&self, out: &mut NodeList<'_, K>)
-        requires { length out.old + nodes (plan_score self.now) ≤ 1023 }
-        ensures { out.new ≡ out.old ++ preorder (plan_score self.now) }
+        requires { length out.old.items + nodes (plan_score self.now) ≤ out.old.room }
+        ensures items { out.new.items ≡ out.old.items ++ preorder (plan_score self.now) }
+        ensures room { out.new.room ≡ out.old.room }
     {
         match self {
             Plan::Simple(pieces) => pieces.write_into(out),

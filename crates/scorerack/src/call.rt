@@ -22,6 +22,18 @@ pub fn skipped(line: &str) -> bool {
     line.is_empty() || line.starts_with('#')
 }
 
+// One more than the longest call has, so that a line with more words than that is no call.
+const MOST_WORDS: usize = 7;
+
+// The words of a line, between single spaces, and no more of them than tell whether it is a call.
+pub fn words_of<'a>(line: &'a str) -> ArrayVec<&'a str, MOST_WORDS> {
+    let mut words = ArrayVec::new();
+    for word in line.split(' ').take(MOST_WORDS) {
+        let _ = words.try_push(word);
+    }
+    words
+}
+
 fn number(word: &str) -> Option<u32> {
     word.parse::<u32>().ok()
 }

@@ -6,7 +6,7 @@ mod draw;
 mod play;
 mod say;
 
-use crate::call::{parse_opening, skipped};
+use crate::call::{parse_opening, skipped, words_of};
 use crate::play::Player;
 use algebra::limits::MOST_NODES;
 use algebra::node::Node;
@@ -34,8 +34,7 @@ fn run(rt: &HostRuntime) -> anyhow::Result<()> {
     let Some(first) = lines.iter().position(|line| !skipped(line)) else {
         return Ok(());
     };
-    let words: Vec<&str> = lines[first].split(' ').collect(rt.alloc())?;
-    match parse_opening(&words) {
+    match parse_opening(words_of(&lines[first]).as_slice()) {
         Some(("note", places)) => play_on::<Note>(rt, &lines, first + 1, places),
         Some(("clip", places)) => play_on::<Clip>(rt, &lines, first + 1, places),
         _ => {

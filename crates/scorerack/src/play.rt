@@ -1,5 +1,5 @@
 // A script that is played on a rack, and what its calls answer.
-use crate::call::{Line, parse, skipped};
+use crate::call::{Line, parse, skipped, words_of};
 use crate::say::say;
 use grammar::lines::MOST_BYTES;
 use kinds::kind::Kind;
@@ -34,8 +34,7 @@ impl<'a, 'n, K: Kind> Player<'a, 'n, K> {
 
     // Does what a line asks for.
     fn carry_out(&mut self, line: usize, text: &str) -> anyhow::Result<()> {
-        let words: Vec<&str> = text.split(' ').collect(self.rt.alloc())?;
-        match parse(&words) {
+        match parse(words_of(text).as_slice()) {
             Some(Line::Plain(call)) => self.make_plain(call),
             Some(Line::Written(call, room)) => self.write(call, room),
             Some(Line::Load { to, file }) => self.load_file(line, to, file),

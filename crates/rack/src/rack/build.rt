@@ -1,13 +1,15 @@
 // The calls that put a new score at an empty place.
-ghost use Rattle.std.specs.Prelude.{◌≡◌, ◌<◌, ◌≤◌, [], length, Some, slice_set, IfOk, OnOk};
+ghost use Rattle.std.specs.Prelude.{◌≡◌, ◌+◌, ◌*◌, ◌<◌, ◌≤◌, ◌∷◌, ◌++◌, length, take, drop, Some, slice_set, IfOk};
 ghost use Rattle.algebra.specs.Score.{Score.rest};
-ghost use Rattle.algebra.specs.Layout.{preorder};
+ghost use Rattle.algebra.specs.Layout.{seen, view};
 ghost use Rattle.nodes.specs.Joins.{joined};
+ghost use Rattle.nodes.specs.Rows.{overlaid};
+ghost use Rattle.nodes.specs.Standing.{standing_score};
 ghost use Rattle.building.specs.Sizes.{sized};
-ghost use Rattle.rack.specs.Places.{Ready};
+ghost use Rattle.rack.specs.Places.{Apart};
 ghost use Rattle.rack.specs.Checks.{held_check};
 ghost use Rattle.rack.specs.Calls.{put};
-ghost use Rattle.rack.specs.Building.{rest_answer, joined_at, join_answer};
+ghost use Rattle.rack.specs.Building.{rest_answer, joined_at, join_answer, JoinReady};
 
 use crate::rack::Rack;
 use crate::rack::places::Held;
@@ -16,7 +18,6 @@ use algebra::node::Node;
 use building::size::{Size, limits};
 use kinds::kind::Kind;
 use nodes::join::Join;
-use nodes::list::NodeList;
 use refusals::refusal::Refusal;
 
 impl<'a, K: Kind> Rack<'a, K> {
@@ -41,15 +42,12 @@ impl<'a, K: Kind> Rack<'a, K> {
         ensures { self.new ≡ slice_set self.old to (Some (rest ticks)) }
     {
         let _ = &self.nodes;
-        let mut room = [Node::Rest(0); MOST_NODES];
-        let mut nodes = NodeList::over(&mut room);
-        nodes.push(Node::Rest(ticks));
         let size = Size {
             nodes: 1,
             primitives: 0,
             length: ticks,
         };
-        self.put(to, &nodes, size);
+        self.put(to, &[Node::Rest(ticks)], size);
     }
 
     // Puts the scores at two places, one after the other, at an empty place.
@@ -74,57 +72,92 @@ impl<'a, K: Kind> Rack<'a, K> {
         ensures after { self.new ≡ put result self.old to (joined_at join self.old first second) }
     {
         self.known(to)?;
-        let _ = &self.nodes;
-        let mut room = [Node::Rest(0); MOST_NODES];
-        let mut nodes = NodeList::over(&mut room);
-        let size = self.join_held(join, to, first, second, &mut nodes)?;
-        self.put(to, &nodes, size);
+        let joined = self.joined(join, to, first, second)?;
+        write_pair(
+            self.nodes,
+            to as usize * MOST_NODES,
+            join.node(),
+            Run::of(first, joined.left),
+            Run::of(second, joined.right),
+        );
+        self.places[to as usize] = Some(joined.size.into());
         Ok(())
     }
 
-    // Puts the nodes of two held scores together in a list that has none, where they may be joined at a place, and returns their size.
-    fn join_held(
-        &self,
-        join: Join,
-        to: u32,
-        first: u32,
-        second: u32,
-        out: &mut NodeList<'_, K>,
-    ) -> Result<Size, Refusal>
-        requires known { to < length self.now }
-        requires none { out.old ≡ [] }
+    // What two held scores are put together, where that may be put at a place.
+    fn joined(&self, join: Join, to: u32, first: u32, second: u32) -> Result<Joined, Refusal>
+        requires { to < length self.now }
         ensures answer { held_check result ≡ join_answer K.Kind.model join self.now to first second }
-        ensures ready { IfOk result (λ size. Ready K.Kind.model out.new size (joined_at join self.now first second)) }
+        ensures ready { IfOk result (λ j. JoinReady K.Kind.model self.now join to first second j.left j.right j.size) }
     {
         self.known(first)?;
         self.known(second)?;
         let left = self.held(first)?;
         let right = self.held(second)?;
         self.vacant(to)?;
-        join_into(join, &left, &right, out)
+        Ok(Joined {
+            left: left.noted.nodes,
+            right: right.noted.nodes,
+            size: joined_size(join, &left, &right)?,
+        })
     }
 }
 
-// Puts the nodes of two held scores together in a list that has none, where there is room for the result, and returns its size.
-fn join_into<K: Kind>(
+// How many nodes two scores have, and what size they are put together.
+#[derive(Clone, Copy)]
+struct Joined {
+    left: u32,
+    right: u32,
+    size: Size,
+}
+
+// The size of two held scores put together, where it is within the limits.
+fn joined_size<K: Kind>(
     join: Join,
     left: &Held<'_, K>,
     right: &Held<'_, K>,
-    out: &mut NodeList<'_, K>,
 ) -> Result<Size, Refusal>
-    requires { out.old ≡ [] }
-    ensures answer { result ≡ sized K.Kind.model (joined join left.now.score right.now.score) }
-    ensures nodes { OnOk result (out.new ≡ preorder (joined join left.now.score right.now.score)) }
+    ensures { result ≡ sized K.Kind.model (joined join (standing_score K.Kind.numbers_of left.now.nodes.now) (standing_score K.Kind.numbers_of right.now.nodes.now)) }
 {
-    let (first, second) = (left.score.score(), right.score.score());
     let size = Size {
         nodes: 1 + left.noted.nodes + right.noted.nodes,
         primitives: left.noted.primitives + right.noted.primitives,
-        length: join.length(first.length(), second.length()),
+        length: join.length(left.length(), right.length()),
     };
     limits(size)?;
-    out.push(join.node());
-    out.push_score(&first);
-    out.push_score(&second);
     Ok(size)
+}
+
+// Some nodes of a row: where they begin, and how many they are.
+#[derive(Clone, Copy)]
+struct Run {
+    at: usize,
+    count: usize,
+}
+
+impl Run {
+    // The first nodes of a place's segment.
+    fn of(place: u32, nodes: u32) -> Run
+        ensures at { result.at ≡ place * 1023 }
+        ensures count { result.count ≡ nodes }
+    {
+        Run {
+            at: place as usize * MOST_NODES,
+            count: nodes as usize,
+        }
+    }
+}
+
+// Writes the node of a pair and copies of the nodes of its parts, which lie elsewhere in the row.
+fn write_pair<K: Kind>(nodes: &mut [Node<K>], to: usize, node: Node<K>, left: Run, right: Run)
+    requires room { to + 1 + left.count + right.count ≤ length nodes.old }
+    requires left_within { left.at + left.count ≤ length nodes.old }
+    requires right_within { right.at + right.count ≤ length nodes.old }
+    requires left_apart { Apart left.at left.count to (1 + left.count + right.count) }
+    requires right_apart { Apart right.at right.count to (1 + left.count + right.count) }
+    ensures { view K.Kind.numbers_of nodes.new ≡ overlaid (view K.Kind.numbers_of nodes.old) to (seen K.Kind.numbers_of node ∷ (take left.count (drop left.at (view K.Kind.numbers_of nodes.old)) ++ take right.count (drop right.at (view K.Kind.numbers_of nodes.old)))) }
+{
+    nodes[to] = node;
+    nodes.copy_within(left.at..left.at + left.count, to + 1);
+    nodes.copy_within(right.at..right.at + right.count, to + 1 + left.count);
 }

@@ -1,7 +1,7 @@
 // The calls on a rack.
-ghost use Rattle.std.specs.Prelude.{◌≡◌, length, take, replicate, IfOk, None};
+ghost use Rattle.std.specs.Prelude.{◌≡◌, ◌≤◌, length, take, replicate, IfOk, None};
 ghost use Rattle.rack.specs.Places.{number};
-ghost use Rattle.rack.specs.Shelves.{score_held};
+ghost use Rattle.rack.specs.Shelves.{score_held, AllHoldable};
 ghost use Rattle.rack.specs.Calls.{LoadedAt, tell_answer, clear_answer, cleared, bytes_at, write_answer};
 ghost use Rattle.rack.specs.Written.{FileOf};
 ghost use Rattle.writing.specs.Writes.{written_over};
@@ -16,7 +16,7 @@ use loading::load::load;
 use loading::placing::place;
 use reading::states::HeadedReading;
 use refusals::refusal::Refusal;
-use writing::file::write_file;
+use writing::file::write_told;
 
 impl<'a, K: Kind> Rack<'a, K> {
     // A rack with a place for each 1,023 of the nodes, up to 8, all empty.
@@ -47,12 +47,14 @@ impl<'a, K: Kind> Rack<'a, K> {
 
     // The length of the score at a place, and how many nodes and primitives it has.
     pub fn tell(&self, place: u32) -> Result<(u32, u32, u32), Refusal>
-        ensures { result ≡ tell_answer K.Kind.model self.now place }
+        ensures answer { result ≡ tell_answer K.Kind.model self.now place }
+        ensures holds { AllHoldable K.Kind.model self.now }
+        ensures places { length self.now ≤ 8 }
     {
+        let _ = &self.nodes;
         self.known(place)?;
         let held = self.held(place)?;
-        let length = held.score.score().length();
-        Ok((length, held.noted.nodes, held.noted.primitives))
+        Ok((held.length(), held.noted.nodes, held.noted.primitives))
     }
 
     // Empties a place that holds a score.
@@ -74,6 +76,6 @@ impl<'a, K: Kind> Rack<'a, K> {
     {
         self.known(place)?;
         let held = self.held(place)?;
-        write_file(&held.score.score(), held.noted.primitives, buffer)
+        write_told(held.nodes, held.length(), held.noted.primitives, buffer)
     }
 }

@@ -58,11 +58,14 @@ impl<'a, K: Kind> Rack<'a, K> {
         ensures after { self.new ≡ put result self.old to (changed K.Kind.model kind (score_held self.old from)) }
     {
         self.known(to)?;
+        self.known(from)?;
+        self.held(from)?;
+        self.vacant(to)?;
         let _ = &self.nodes;
         let mut room = [Node::Rest(0); MOST_NODES];
         let mut nodes = NodeList::over(&mut room);
         let size = self.change_held(kind, to, from, &mut nodes)?;
-        self.put(to, &nodes, size);
+        self.put(to, nodes.as_slice(), size);
         Ok(())
     }
 
@@ -75,13 +78,14 @@ impl<'a, K: Kind> Rack<'a, K> {
         out: &mut NodeList<'_, K>,
     ) -> Result<Size, Refusal>
         requires known { to < length self.now }
-        requires none { out.old ≡ [] }
+        requires none { out.old.items ≡ [] }
+        requires room { out.old.room ≡ 1023 }
         ensures answer { held_check result ≡ make_answer K.Kind.model self.now to from (changed K.Kind.model kind (score_held self.now from)) }
-        ensures ready { IfOk result (λ size. Ready K.Kind.model out.new size (changed K.Kind.model kind (score_held self.now from))) }
+        ensures ready { IfOk result (λ size. Ready K.Kind.model out.new.items size (changed K.Kind.model kind (score_held self.now from))) }
     {
         self.known(from)?;
         let held = self.held(from)?;
         self.vacant(to)?;
-        change(&held.score.score(), kind, out)
+        change(&held.measured().score(), kind, out)
     }
 }

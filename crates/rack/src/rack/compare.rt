@@ -1,21 +1,16 @@
 // The calls on two scores: comparing them, and writing the normal form of one after the other.
-ghost use Rattle.std.specs.Prelude.{◌≡◌, ◌≤◌, ◌↔◌, length, IfOk, OnOk};
+ghost use Rattle.std.specs.Prelude.{◌≡◌, ◌↔◌, length, IfOk, OnOk};
 ghost use Rattle.algebra.specs.Rules.{Chain};
 ghost use Rattle.comparing.specs.declared.comparison.Comparison.TheVariants.{Same};
-ghost use Rattle.writing.specs.Writes.{written_answer, written_over};
-ghost use Rattle.normal_file.specs.Bytes.{normal_bytes};
+ghost use Rattle.writing.specs.Writes.{written_over};
 ghost use Rattle.rack.specs.Shelves.{score_held};
 ghost use Rattle.rack.specs.Comparing.{compare_answer, OnlyAnswer, normal_bytes_at, write_normal_answer, BytesDecide};
 
 use crate::rack::Rack;
-use algebra::limits::MOST_NODES;
-use algebra::node::Node;
 use comparing::compare::compare;
 use comparing::comparison::Comparison;
 use kinds::kind::Kind;
-use nodes::list::NodeList;
-use nodes::score::Score;
-use normal_file::write::write_normal;
+use normal_file::write::write_normal_from;
 use refusals::refusal::Refusal;
 
 impl<'a, K: Kind> Rack<'a, K> {
@@ -29,7 +24,7 @@ impl<'a, K: Kind> Rack<'a, K> {
         self.known(second)?;
         let one = self.held(first)?;
         let other = self.held(second)?;
-        Ok(compare(&one.score.score(), &other.score.score()))
+        Ok(compare(&one.measured().score(), &other.measured().score()))
     }
 
     // Writes the file of the normal form of the score at a place, after the model at another, from the start of the buffer, and returns how many bytes it has.
@@ -42,27 +37,11 @@ impl<'a, K: Kind> Rack<'a, K> {
         self.known(model)?;
         let own = self.held(place)?;
         let other = self.held(model)?;
-        write_after(
+        write_normal_from(
             &*self.nodes,
-            &own.score.score(),
-            &other.score.score(),
+            &own.measured().score(),
+            &other.measured().score(),
             buffer,
         )
     }
-}
-
-// Writes the file of the normal form of a score after a model. The nodes of a rack show that room for as many may be had.
-fn write_after<K: Kind>(
-    nodes: &[Node<K>],
-    score: &Score<'_, K>,
-    model: &Score<'_, K>,
-    buffer: &mut [u8],
-) -> Result<u32, Refusal>
-    requires { 1023 ≤ length nodes.now }
-    ensures answer { result ≡ written_answer (normal_bytes K.Kind.model score.now model.now) (length buffer.old) }
-    ensures after { buffer.new ≡ written_over result (normal_bytes K.Kind.model score.now model.now) buffer.old }
-{
-    let mut room = [Node::Rest(0); MOST_NODES];
-    let mut form = NodeList::over(&mut room);
-    write_normal(score, model, &mut form, buffer)
 }

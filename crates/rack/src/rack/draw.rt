@@ -21,7 +21,7 @@ impl<'a, K: Kind> Rack<'a, K> {
     {
         self.known(place)?;
         let held = self.held(place)?;
-        draw_score(&held.score.score(), renderer);
+        draw_score(&held.measured().score(), renderer);
         Ok(())
     }
 }

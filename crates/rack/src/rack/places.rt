@@ -1,8 +1,10 @@
 // The places of a rack: what they hold, and what is put there.
 ghost use Rattle.std.specs.Prelude.{◌≡◌, ◌<◌, length, slice_set, Some, None, OnOk, IfOk};
-ghost use Rattle.algebra.specs.Score.{Score};
-ghost use Rattle.algebra.specs.Layout.{preorder};
+ghost use Rattle.algebra.specs.Score.{Score, score_length};
+ghost use Rattle.algebra.specs.Layout.{view, preorder};
 ghost use Rattle.algebra.specs.Limits.{Fits};
+ghost use Rattle.nodes.specs.Held.{Whole};
+ghost use Rattle.nodes.specs.Standing.{standing_score};
 ghost use Rattle.rack.specs.Places.{place_at, Counts, Ready};
 ghost use Rattle.rack.specs.Shelves.{at};
 ghost use Rattle.rack.specs.Checks.{known, holding, vacant, held_check};
@@ -10,20 +12,38 @@ ghost use Rattle.rack.specs.Checks.{known, holding, vacant, held_check};
 use crate::place::Place;
 use crate::rack::Rack;
 use algebra::limits::MOST_NODES;
+use algebra::node::Node;
 use building::size::Size;
 use kinds::kind::Kind;
-use nodes::list::NodeList;
+use nodes::measure::length_of;
 use nodes::measured::Measured;
 use nodes::rows::{some_of, write_over};
 use refusals::refusal::Refusal;
 
-// A score that a place holds, with what is noted of it.
+// The nodes of a score that a place holds, with what is noted of it.
 #[derive(Drop)]
 pub(crate) struct Held<'a, K: Kind> {
-    pub score: Measured<'a, K>,
+    pub nodes: &'a [Node<K>],
     pub noted: Place,
-    ghost counts: { Counts noted score },
-    ghost fits: { Fits K.Kind.model score },
+    ghost whole: { Whole (view K.Kind.numbers_of nodes.now) },
+    ghost counts: { Counts noted (standing_score K.Kind.numbers_of nodes.now) },
+    ghost fits: { Fits K.Kind.model (standing_score K.Kind.numbers_of nodes.now) },
+}
+
+impl<'a, K: Kind> Held<'a, K> {
+    // The score, measured. This goes over all its nodes, so it comes behind the checks that need none of them.
+    pub(crate) fn measured(&self) -> Measured<'a, K>
+        ensures { result ≡ standing_score K.Kind.numbers_of self.now.nodes.now }
+    {
+        Measured::of(self.nodes)
+    }
+
+    // The length of the score, where nothing else is asked of it.
+    pub(crate) fn length(&self) -> u32
+        ensures { result ≡ score_length K.Kind.model (standing_score K.Kind.numbers_of self.now.nodes.now) }
+    {
+        length_of(self.nodes)
+    }
 }
 
 impl<'a, K: Kind> Rack<'a, K> {
@@ -58,26 +78,23 @@ impl<'a, K: Kind> Rack<'a, K> {
     // The score at a place; refuses a place that holds none.
     pub(crate) fn held(&self, place: u32) -> Result<Held<'_, K>, Refusal>
         ensures answer { held_check result ≡ holding self.now place }
-        ensures held { IfOk result (λ h. at self.now place ≡ Some h.score) }
+        ensures held { IfOk result (λ h. at self.now place ≡ Some (standing_score K.Kind.numbers_of h.nodes.now)) }
     {
         let Some(noted) = note_at(&self.places, place) else {
             return Err(Refusal::EmptyPlace(place));
         };
         let start = place as usize * MOST_NODES;
         let nodes = some_of(self.nodes, start, noted.nodes as usize);
-        Ok(Held {
-            score: Measured::of(nodes),
-            noted,
-        })
+        Ok(Held { nodes, noted })
     }
 
     // Puts a score of a size, which a place has room for, at a place of the rack.
-    pub(crate) fn put(&mut self, to: u32, nodes: &NodeList<'_, K>, size: Size)
+    pub(crate) fn put(&mut self, to: u32, nodes: &[Node<K>], size: Size)
         requires known { to < length self.old }
-        requires ready { (s : Score) × Ready K.Kind.model nodes.now size s }
-        ensures { (s : Score) → nodes.now ≡ preorder s → self.new ≡ slice_set self.old to (Some s) }
+        requires ready { (s : Score) × Ready K.Kind.model (view K.Kind.numbers_of nodes.now) size s }
+        ensures { (s : Score) → view K.Kind.numbers_of nodes.now ≡ preorder s → self.new ≡ slice_set self.old to (Some s) }
     {
-        write_over(self.nodes, to as usize * MOST_NODES, nodes.as_slice());
+        write_over(self.nodes, to as usize * MOST_NODES, nodes);
         self.places[to as usize] = Some(size.into());
     }
 

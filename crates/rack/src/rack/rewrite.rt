@@ -34,11 +34,15 @@ impl<'a, K: Kind> Rack<'a, K> {
     {
         let step = step_named(rule, way, split)?;
         self.known(place)?;
+        let held = self.held(place)?;
+        if node >= held.noted.nodes {
+            return Err(Refusal::NoSuchNode(held.noted.nodes));
+        }
         let _ = &self.nodes;
         let mut room = [Node::Rest(0); MOST_NODES];
         let mut nodes = NodeList::over(&mut room);
         let size = self.rewrite_held(place, node, step, &mut nodes)?;
-        self.put(place, &nodes, size);
+        self.put(place, nodes.as_slice(), size);
         Ok(())
     }
 
@@ -51,14 +55,15 @@ impl<'a, K: Kind> Rack<'a, K> {
         out: &mut NodeList<'_, K>,
     ) -> Result<Size, Refusal>
         requires known { place < length self.now }
-        requires none { out.old ≡ [] }
+        requires none { out.old.items ≡ [] }
+        requires room { out.old.room ≡ 1023 }
         ensures answer { held_check result ≡ all (rewritable self.now place node ++ steppable K.Kind.model node (stepped_at K.Kind.model self.now place node (Some step))) }
-        ensures ready { IfOk result (λ size. Ready K.Kind.model out.new size (score_in (stepped_at K.Kind.model self.now place node (Some step)))) }
+        ensures ready { IfOk result (λ size. Ready K.Kind.model out.new.items size (score_in (stepped_at K.Kind.model self.now place node (Some step)))) }
     {
         let held = self.held(place)?;
         if node >= held.noted.nodes {
             return Err(Refusal::NoSuchNode(held.noted.nodes));
         }
-        rewrite(&held.score.score(), node, step, out)
+        rewrite(&held.measured().score(), node, step, out)
     }
 }

@@ -14,14 +14,14 @@ reverse_into-requires-in-Pair-Sequence-default-default g t c κs within =
     let K = g.K.Kind.model in
     let x = c.in-Pair-Sequence-default-default in
     let w = ap (λ s. nodes (reversed K s)) (x.ensures.is ∙ ap (λ k. joined k x.left x.right) x.field-0-is) in
-    (omega (arith, ap nodes x.ensures.is, pair_nodes x.field-0 x.left x.right), (within, omega (arith, w, put_long c.args.out.now _ c.push-in-Pair-Sequence-default-default.ensures, put_nodes c.push-in-Pair-Sequence-default-default.new.self (reversed K x.right) c.reverse_into.ensures, c.requires)))
+    (omega (arith, ap nodes x.ensures.is, pair_nodes x.field-0 x.left x.right), (within, omega (arith, w, put_long c.args.out.now.items _ c.push-in-Pair-Sequence-default-default.ensures.items, put_nodes c.push-in-Pair-Sequence-default-default.new.self.items (reversed K x.right) c.reverse_into.ensures.items, c.push-in-Pair-Sequence-default-default.ensures.room, c.reverse_into.ensures.room, c.requires)))
 
 pub reverse_into-requires-in-Pair-Parallel-default-default : goal.reverse_into-requires-in-Pair-Parallel-default-default
 reverse_into-requires-in-Pair-Parallel-default-default g t c κs within =
     let x = c.in-Pair-Parallel-default-default in
     let n = reverse_nodes g.K.Kind.model c.args.score.now x.left x.right x.field-0 _ _ x.ensures.is x.field-0-is c.length-first.ensures.length c.length-second.ensures.length in (
       omega (arith, ap nodes x.ensures.is, pair_nodes x.field-0 x.left x.right),
-      (within, omega (arith, n, put_long c.args.out.now _ c.push-in-Pair-Parallel-default-default.ensures, put_long c.push-in-Pair-Parallel-default-default.new.self _ c.pad_into.ensures, c.requires)),
+      (within, omega (arith, n, put_long c.args.out.now.items _ c.push-in-Pair-Parallel-default-default.ensures.items, put_long c.push-in-Pair-Parallel-default-default.new.self.items _ c.pad_into.ensures.items, c.push-in-Pair-Parallel-default-default.ensures.room, c.pad_into.ensures.room, c.requires)),
     )
 
 pub pad_into-requires-in-Pair-Parallel-default-default : goal.pad_into-requires-in-Pair-Parallel-default-default
@@ -32,9 +32,12 @@ pad_into-requires-in-Pair-Parallel-default-default g t c =
     omega (
       arith,
       n,
-      put_long c.args.out.now _ c.push-in-Pair-Parallel-default-default.ensures,
-      put_long c.push-in-Pair-Parallel-default-default.new.self _ c.pad_into.ensures,
-      put_nodes c.pad_into.new.out (reversed K x.left) c.reverse_into-in-Pair-Parallel-default-default.ensures,
+      put_long c.args.out.now.items _ c.push-in-Pair-Parallel-default-default.ensures.items,
+      put_long c.push-in-Pair-Parallel-default-default.new.self.items _ c.pad_into.ensures.items,
+      put_nodes c.pad_into.new.out.items (reversed K x.left) c.reverse_into-in-Pair-Parallel-default-default.ensures.items,
+      c.push-in-Pair-Parallel-default-default.ensures.room,
+      c.pad_into.ensures.room,
+      c.reverse_into-in-Pair-Parallel-default-default.ensures.room,
       c.requires,
     )
 
@@ -49,20 +52,24 @@ reverse_into-requires-in-Pair-Parallel-default-default-2 g t c κs within =
         omega (
           arith,
           n,
-          put_long c.args.out.now _ c.push-in-Pair-Parallel-default-default.ensures,
-          put_long c.push-in-Pair-Parallel-default-default.new.self _ c.pad_into.ensures,
-          put_nodes c.pad_into.new.out (reversed K x.left) c.reverse_into-in-Pair-Parallel-default-default.ensures,
-          put_long c.reverse_into-in-Pair-Parallel-default-default.new.out _ c.pad_into-in-Pair-Parallel-default-default.ensures,
+          put_long c.args.out.now.items _ c.push-in-Pair-Parallel-default-default.ensures.items,
+          put_long c.push-in-Pair-Parallel-default-default.new.self.items _ c.pad_into.ensures.items,
+          put_nodes c.pad_into.new.out.items (reversed K x.left) c.reverse_into-in-Pair-Parallel-default-default.ensures.items,
+          put_long c.reverse_into-in-Pair-Parallel-default-default.new.out.items _ c.pad_into-in-Pair-Parallel-default-default.ensures.items,
+          c.push-in-Pair-Parallel-default-default.ensures.room,
+          c.pad_into.ensures.room,
+          c.reverse_into-in-Pair-Parallel-default-default.ensures.room,
+          c.pad_into-in-Pair-Parallel-default-default.ensures.room,
           c.requires,
         ),
       ),
     )
 
-pub returns-in-Pair-Parallel-default-default : goal.returns-in-Pair-Parallel-default-default
-returns-in-Pair-Parallel-default-default g t c =
+pub returns-in-Pair-Parallel-default-default-clause-items : goal.returns-in-Pair-Parallel-default-default-clause-items
+returns-in-Pair-Parallel-default-default-clause-items g t c =
     let K = g.K.Kind.model in
     let x = c.in-Pair-Parallel-default-default in
-    let us = put_both c.push-in-Pair-Parallel-default-default.new.self _ _ c.pad_into.ensures c.reverse_into-in-Pair-Parallel-default-default.ensures in
-    let vs = put_both c.reverse_into-in-Pair-Parallel-default-default.new.out _ _ c.pad_into-in-Pair-Parallel-default-default.ensures c.reverse_into-in-Pair-Parallel-default-default-2.ensures in
-    put_pair c.args.out.now Parallel _ _ c.push-in-Pair-Parallel-default-default.ensures us vs
-    ∙ ap (λ xs. c.args.out.now ++ xs) (sym (reverse_row K c.args.score.now x.left x.right x.field-0 _ _ x.ensures.is x.field-0-is c.length-first.ensures.length c.length-second.ensures.length))
+    let us = put_both c.push-in-Pair-Parallel-default-default.new.self.items _ _ c.pad_into.ensures.items c.reverse_into-in-Pair-Parallel-default-default.ensures.items in
+    let vs = put_both c.reverse_into-in-Pair-Parallel-default-default.new.out.items _ _ c.pad_into-in-Pair-Parallel-default-default.ensures.items c.reverse_into-in-Pair-Parallel-default-default-2.ensures.items in
+    put_pair c.args.out.now.items Parallel _ _ c.push-in-Pair-Parallel-default-default.ensures.items us vs
+    ∙ ap (λ xs. c.args.out.now.items ++ xs) (sym (reverse_row K c.args.score.now x.left x.right x.field-0 _ _ x.ensures.is x.field-0-is c.length-first.ensures.length c.length-second.ensures.length))

@@ -1,7 +1,6 @@
-use Rattle.std.proofs.Common.{◌≡◌, ◌++◌, take}
-use Rattle.normal.specs.Placing.{all_placed}
-use Rattle.normal.proofs.Writings.{opened}
+use Rattle.std.proofs.Common.{take}
+use Rattle.normal.proofs.Writings.{LinesStand}
 use Rattle.normal.proofs.lines.write_lines.Given as goal
 
 abbrev pub invariant-loop-item : goal.invariant-loop-item
-invariant-loop-item g l = l.out ≡ l.initial.out ++ opened g.K.Kind.model l.meaning.length (all_placed (take l.item-index l.rest))
+invariant-loop-item g l = LinesStand g.K.Kind.model l.length l.initial.out l.out (take l.item-index l.rest)

@@ -1,4 +1,5 @@
-use Rattle.std.proofs.Common.{◌+◌, ◌++◌, ap, ◌∙◌, sym, arith}
+use Rattle.std.proofs.Common.{◌+◌, ◌++◌, length, ap, ◌∙◌, sym, arith}
+use Rattle.std.proofs.lemmas.List.{length-append}
 use Rattle.algebra.specs.Score.{nodes, primitives, score_length}
 use Rattle.nodes.specs.Joins.{joined}
 use Rattle.nodes.proofs.Lists.{put_long, put_both}
@@ -20,7 +21,7 @@ place_into-requires-in-Pair-Parallel-default-default-2 g t c κs within =
     let x = c.in-Pair-Parallel-default-default in
     let e = x.ensures.is ∙ ap (λ k. joined k x.left x.right) x.field-0-is in (
       omega (arith, ap nodes e),
-      (within, (omega (arith, ap (score_length g.K.Kind.model) e, c.requires.short), omega (arith, ap primitives e, put_long c.args.list.now _ c.place_into-in-Pair-Parallel-default-default.ensures, length_from g.K.Kind.model c.args.onset x.left, c.requires.room))),
+      (within, (omega (arith, ap (score_length g.K.Kind.model) e, c.requires.short), grind (arith, length-append, ap primitives e, ap length c.place_into-in-Pair-Parallel-default-default.ensures, length_from g.K.Kind.model c.args.onset x.left, c.requires.room))),
     )
 
 pub returns-in-Pair-Sequence-default-default : goal.returns-in-Pair-Sequence-default-default

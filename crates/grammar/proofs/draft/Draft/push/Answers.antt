@@ -1,14 +1,20 @@
-use Rattle.std.proofs.Common.{◌≡◌, ℕ, ◌<◌, [], ◌∷◌, ◌++◌, take, Ok, Err, Result, IsOk, OnOk, OnErr, ◌↔◌, arith, length-append}
-use Rattle.std.proofs.lemmas.List.{take_all, take_at}
-use Rattle.arrayvec.specs.ArrayVec.{ArrayVec, array_vec_len}
+use Rattle.std.proofs.Common.{◌≡◌, [], ◌∷◌, ◌++◌, length, take, set, sym, ap, ◌∙◌, add-one, arith, take-suc-set}
+use Rattle.std.proofs.lemmas.List.{take_all, take_at, length-append, length-take-le}
 use Rattle.grammar.proofs.draft.Draft.push.Goals as goal
 
--- what is held when an item is put in behind the others, where there is room
-pushed : {X E : Type 0} (r : Result (Unit {0}) E) (n : ℕ) (old new : ArrayVec X) (x : X) → (IsOk r ↔ (array_vec_len old < n)) → OnOk r (new.items ≡ old.items ++ x ∷ []) → OnErr r (new ≡ old) → OnErr r (array_vec_len old ≡ n) → new.items ≡ take n (old.items ++ x ∷ [])
-pushed (Ok u) n old new x room more same full = grind (arith, take_all, length-append)
-pushed (Err e) n old new x room more same full = grind (arith, take_at)
+pub returns-then-self-lt-ROOM : goal.returns-then-self-lt-ROOM
+returns-then-self-lt-ROOM c =
+    let d = c.self.inside in
+    let x = c.args.item in
+    let long : length (take d.count d.items) ≡ d.count = length-take-le d.count d.items (omega arith) in
+    ap (λ n. take n (set d.items d.count x)) (add-one d.count)
+    ∙ take-suc-set d.items d.count x (omega arith)
+    ∙ sym (take_all 1024 (take d.count d.items ++ (x ∷ [])) (omega (arith, length-append (take d.count d.items) (x ∷ []), long, c.if-self-lt-ROOM.true)))
+    ∙ ap (λ is. take 1024 (is ++ (x ∷ []))) c.self.view_is
 
-pub returns : goal.returns
-returns c =
-    let told = c.try_push.ensures in
-    rw (← c.self.view_is) (pushed c.try_push.result 1024 c.self.inside.items c.try_push.new.self c.args.item told.variant told.ok told.err told.full)
+pub returns-else-self-lt-ROOM : goal.returns-else-self-lt-ROOM
+returns-else-self-lt-ROOM c =
+    let d = c.self.inside in
+    let x = c.args.item in
+    sym c.self.view_is ∙ sym (take_at (take d.count d.items) (x ∷ []) 1024 (length-take-le d.count d.items (omega arith) ∙ omega (arith, c.self.invariant, c.if-self-lt-ROOM.false)))
+    ∙ ap (λ is. take 1024 (is ++ (x ∷ []))) c.self.view_is

@@ -1,7 +1,9 @@
-use Rattle.std.proofs.Common.{◌≡◌, ◌∷◌, Some, length, sym, ap, ◌∙◌, subst, arith}
-use Rattle.algebra.specs.Layout.{score_of}
+use Rattle.std.proofs.Common.{◌≡◌, Some, sym, ap, ◌∙◌, subst, arith}
+use Rattle.algebra.specs.Layout.{preorder, score_of}
+use Rattle.algebra.specs.Limits.{Fits}
+use Rattle.nodes.specs.Standing.{standing_score}
 use Rattle.nodes.proofs.Shapes.{score_preorder}
-use Rattle.nodes.proofs.Standings.{fitting_stands}
+use Rattle.rack.specs.Places.{Counts}
 use Rattle.rack.specs.Shelves.{at}
 use Rattle.rack.proofs.Shelves.{segment_within, at_empty, at_full, holding_yes, holding_no, lent_used}
 use Rattle.rack.proofs.rack.Rack.held.Goals as goal
@@ -15,12 +17,6 @@ pub some_of-nodes-requires : goal.some_of-nodes-requires
 some_of-nodes-requires g c =
     let n = c.self.invariant.true c.args.place c.in-Some.noted (sym c.note_at.ensures ∙ c.in-Some.is) in
     omega (arith, segment_within c.self.inside.nodes.now c.args.place n.there, n.counts.nodes_are, n.fits.few_nodes)
-
-pub of-requires : goal.of-requires
-of-requires g c =
-    let f = g.K.Kind.numbers_of in
-    let n = c.self.invariant.true c.args.place c.in-Some.noted (sym c.note_at.ensures ∙ c.in-Some.is) in
-    fitting_stands g.K.Kind.model g.met.K.Kind.lawful.lengths f g.met.K.Kind.legal c.some_of-nodes.result.now n.score (lent_used f c.self.inside.nodes.now c.args.place c.in-Some.noted.nodes c.some_of-nodes.ensures ∙ n.stands) n.fits
 
 pub returns-clause-answer : goal.returns-clause-answer
 returns-clause-answer g c =
@@ -36,7 +32,7 @@ returns-clause-held g c =
     let noted = sym c.note_at.ensures ∙ c.in-Some.is in
     let n = c.self.invariant.true p c.in-Some.noted noted in
     let row = lent_used f c.self.inside.nodes.now p c.in-Some.noted.nodes c.some_of-nodes.ensures ∙ n.stands in
-    let is = c.of.ensures ∙ ap score_of row ∙ score_preorder n.score in
+    let is = ap score_of row ∙ score_preorder n.score in
     ap (λ l. at l p) (sym c.self.view_is) ∙ at_full f c.self.inside.nodes.now c.self.inside.places g.K.Kind.model p c.in-Some.noted noted n ∙ ap Some (sym is)
 
 pub invariant_of-result : goal.invariant_of-result
@@ -44,5 +40,6 @@ invariant_of-result g c =
     let f = g.K.Kind.numbers_of in
     let p = c.args.place in
     let n = c.self.invariant.true p c.in-Some.noted (sym c.note_at.ensures ∙ c.in-Some.is) in
-    let is = c.of.ensures ∙ ap score_of (lent_used f c.self.inside.nodes.now p c.in-Some.noted.nodes c.some_of-nodes.ensures ∙ n.stands) ∙ score_preorder n.score in
-    rw is (record { counts = n.counts; fits = n.fits })
+    let row = lent_used f c.self.inside.nodes.now p c.in-Some.noted.nodes c.some_of-nodes.ensures ∙ n.stands in
+    let is : standing_score f c.some_of-nodes.result.now ≡ n.score = ap score_of row ∙ score_preorder n.score in
+    record { whole = row ∙ ap preorder (sym is); counts = subst (Counts c.in-Some.noted) (sym is) n.counts; fits = subst (Fits g.K.Kind.model) (sym is) n.fits }

@@ -1,4 +1,4 @@
-use Rattle.std.proofs.Common.{rules, ◌*◌, ◌<◌, Ok, Some, length, set, sym, ap, ◌∙◌, subst, arith}
+use Rattle.std.proofs.Common.{rules, ◌*◌, Ok, Some, length, set, sym, ap, ◌∙◌, subst, arith}
 use Rattle.algebra.specs.Layout.{view}
 use Rattle.loading.specs.Gives.{Given}
 use Rattle.nodes.specs.Rows.{overlaid}

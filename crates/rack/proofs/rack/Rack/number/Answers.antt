@@ -1,4 +1,4 @@
-use Rattle.std.proofs.Common.{length, sym, ap, ◌∙◌, arith}
+use Rattle.std.proofs.Common.{length, ap, arith}
 use Rattle.rack.proofs.Shelves.{length_shelf}
 use Rattle.rack.proofs.rack.Rack.number.Goals as goal
 

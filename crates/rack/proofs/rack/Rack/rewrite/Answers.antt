@@ -1,4 +1,4 @@
-use Rattle.std.proofs.Common.{◌≡◌, Err, length, sym, ap, ◌∙◌, arith}
+use Rattle.std.proofs.Common.{Err, length, ap, ◌∙◌, arith}
 use Rattle.std.proofs.lemmas.Result.{err_from_is_err_and}
 use Rattle.building.specs.Steps.{step_checks}
 use Rattle.rack.proofs.Room.{fewer_bytes}

@@ -1,8 +1,9 @@
 -- What a sort leaves has the bag of what it was given, and is in order.
-use Rattle.std.proofs.Common.{◌≡◌, ℕ, suc, ◌<◌, ◌≤◌, false, cond, List, [], ◌∷◌, length, get_or, count_by, sym, refl, ap, ◌∙◌, arith}
+use Rattle.std.proofs.Common.{◌≡◌, ℕ, suc, ◌<◌, ◌≤◌, false, cond, List, [], ◌∷◌, ◌++◌, length, get_or, count_by, sym, refl, ap, ◌∙◌, arith}
 use Rattle.std.specs.Ordering.{is_lt}
 use Rattle.std.specs.List.Sorted.{IsPermutation, IsSortedBy}
 use Rattle.std.proofs.ByRecursion.{All-map, All-from_get_or, all_shuffled}
+use Rattle.std.proofs.lemmas.List.{map-append}
 use Rattle.std.proofs.lemmas.List.MinMax.{ranks_by}
 use Rattle.std.proofs.lemmas.List.Recursion.{is_count_by}
 use Rattle.std.proofs.lemmas.List.Sorted.{sorted_far as ascends_far, sum_by-IsPermutation, IsPermutation-map}
@@ -31,6 +32,10 @@ not_before : (K : KindModel) (x y : PlacedNumbers) → LegalNumbers K x.numbers 
 not_before K x y l m e d =
     let same : any_order K y x ≡ compare_placed K (placed_of y) (placed_of x) = simp (l, m) in
     let z : ◌≡◌ {A = ℕ} 0 1 = cc in omega arith
+
+-- what is put into a list of none is all of it
+pub put_alone : (none items : List PlacedNumbers) → all_placed none ≡ [] → {all : List PlacedNumbers} → all ≡ none ++ items → all_placed all ≡ all_placed items
+put_alone none items e put = ap all_placed put ∙ map-append placed_of none items ∙ ap (λ xs. xs ++ all_placed items) e
 
 module _ (K : KindModel) (order : OrderLaws K) where
   ascending : (xs : List PlacedNumbers) → AllLegal K (all_placed xs)

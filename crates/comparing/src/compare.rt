@@ -7,19 +7,21 @@ use crate::comparison::Comparison;
 use crate::differing::compare_bags;
 use kinds::kind::Kind;
 use nodes::score::Score;
-use normal::meaning::Meaning;
+use normal::placed::PlacedList;
 
 // Compares two scores: by their lengths, and where these agree by how often each placed primitive occurs.
 pub fn compare<K: Kind>(first: &Score<'_, K>, second: &Score<'_, K>) -> Comparison
     ensures { result ≡ said (compared K.Kind.model first.now second.now) }
 {
-    let first = Meaning::of(first);
-    let second = Meaning::of(second);
-    if first.length != second.length {
+    let mut first_placed = PlacedList::new();
+    let first_length = first_placed.fill(first);
+    let mut second_placed = PlacedList::new();
+    let second_length = second_placed.fill(second);
+    if first_length != second_length {
         return Comparison::Lengths {
-            first: first.length,
-            second: second.length,
+            first: first_length,
+            second: second_length,
         };
     }
-    compare_bags(&first.placed, &second.placed)
+    compare_bags(&first_placed, &second_placed)
 }

@@ -40,13 +40,15 @@ fn first_parting<K: Kind>(first: &SortedList<K>, second: &SortedList<K>) -> Opti
 pub fn compare_bags<K: Kind>(first: &PlacedList<K>, second: &PlacedList<K>) -> Comparison
     ensures { result ≡ said (bag_answer K.Kind.model first.now second.now) }
 {
-    let first = SortedList::of(first);
-    let second = SortedList::of(second);
-    match first_parting(&first, &second) {
+    let mut left = SortedList::new();
+    left.fill(first);
+    let mut right = SortedList::new();
+    right.fill(second);
+    match first_parting(&left, &right) {
         Some(placed) => Comparison::Differs {
             placed,
-            first: count_of(&first, placed),
-            second: count_of(&second, placed),
+            first: count_of(&left, placed),
+            second: count_of(&right, placed),
         },
         None => Comparison::Same,
     }

@@ -30,5 +30,5 @@ pub fn order<K: Kind>(first: PlacedNumbers, second: PlacedNumbers) -> Ordering
     first
         .onset
         .cmp(&second.onset)
-        .then(order_numbers::<K>(first.numbers, second.numbers))
+        .then_with(|| order_numbers::<K>(first.numbers, second.numbers))
 }

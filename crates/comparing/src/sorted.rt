@@ -1,5 +1,5 @@
 // Placed primitives in order.
-ghost use Rattle.std.specs.Prelude.{◌≡◌, ◌≤◌, length};
+ghost use Rattle.std.specs.Prelude.{◌≡◌, ◌≤◌, [], length};
 ghost use Rattle.algebra.specs.Meaning.{SameBag};
 ghost use Rattle.normal.specs.Placing.{all_placed};
 ghost use Rattle.comparing.specs.Order.{InOrder};
@@ -32,18 +32,35 @@ impl<K: Kind> Model for SortedList<K> {
 }
 
 impl<K: Kind> SortedList<K> {
+    // A list of none.
+    pub fn new() -> Self
+        ensures { result ≡ [] }
+    {
+        SortedList {
+            items: ArrayVec::new(),
+            kind: PhantomData,
+        }
+    }
+
     // The placed primitives of a list, put in order.
     pub fn of(list: &PlacedList<K>) -> Self
         ensures bag { SameBag result list.now }
         ensures order { InOrder K.Kind.model result }
     {
-        let mut items = ArrayVec::new();
-        items.try_extend_from_slice(list.items()).unwrap();
-        items.sort_unstable_by(|first, second| order::<K>(*first, *second));
-        SortedList {
-            items,
-            kind: PhantomData,
-        }
+        let mut sorted = SortedList::new();
+        sorted.fill(list);
+        sorted
+    }
+
+    // Fills a list that has none with the placed primitives of another, put in order.
+    pub fn fill(&mut self, list: &PlacedList<K>)
+        requires { self.old ≡ [] }
+        ensures bag { SameBag self.new list.now }
+        ensures order { InOrder K.Kind.model self.new }
+    {
+        self.items.try_extend_from_slice(list.items()).unwrap();
+        self.items
+            .sort_unstable_by(|first, second| order::<K>(*first, *second));
     }
 
     // The placed primitives, in order.

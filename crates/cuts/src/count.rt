@@ -3,6 +3,8 @@ ghost use Rattle.std.specs.Prelude.{◌≡◌, ◌<◌, ◌^◌, length};
 ghost use Rattle.algebra.specs.Cuts.{reversed};
 ghost use Rattle.algebra.specs.Layout.{view, preorder};
 ghost use Rattle.algebra.specs.Score.{Score as Term, nodes, primitives};
+ghost use Rattle.cuts.specs.Padding.{uneven_pair};
+ghost use Rattle.nodes.specs.Scores.{part_at};
 
 use algebra::node::Node;
 use kinds::kind::Kind;
@@ -19,21 +21,22 @@ pub fn count_primitives<K: Kind>(row: &[Node<K>]) -> u32
         .count() as u32
 }
 
-// How many nodes the reverse of a score has.
-#[tactic(auto, using(crate::proofs::Counting::reversed_most))]
+// Whether the part that begins at a node is a parallel of two of different lengths.
+fn is_uneven<K: Kind>(score: &Score<'_, K>, at: usize) -> bool
+    requires { at < nodes score.now }
+    ensures { result ≡ uneven_pair K.Kind.model (part_at score.now at) }
+{
+    match score.look_at(at) {
+        Look::Pair(Join::Parallel, left, right) => score.length_at(left) != score.length_at(right),
+        Look::Pair(Join::Sequence, _, _) | Look::Rest(_) | Look::Primitive(_) => false,
+    }
+}
+
+// How many nodes the reverse of a score has: two more for each parallel of two of different lengths.
 pub fn reversed_nodes<K: Kind>(score: &Score<'_, K>) -> u32
     ensures { result ≡ nodes (reversed K.Kind.model score.now) }
 {
-    match score.look() {
-        Look::Rest(_) | Look::Primitive(_) => 1,
-        Look::Pair(Join::Sequence, left, right) => {
-            1 + reversed_nodes(&left) + reversed_nodes(&right)
-        }
-        Look::Pair(Join::Parallel, left, right) => {
-            let first = left.length();
-            let second = right.length();
-            let padding = if first == second { 0 } else { 2 };
-            1 + padding + reversed_nodes(&left) + reversed_nodes(&right)
-        }
-    }
+    let count = score.count();
+    let uneven = (0..count).filter(|at| is_uneven(score, *at)).count();
+    (count + 2 * uneven) as u32
 }

@@ -1,8 +1,9 @@
 // What follows the first ticks of a score.
-ghost use Rattle.std.specs.Prelude.{◌≡◌, ◌+◌, ◌≤◌, ◌++◌, length};
+ghost use Rattle.std.specs.Prelude.{◌≡◌, ◌+◌, ◌<◌, ◌≤◌, ◌++◌, length};
 ghost use Rattle.algebra.specs.Cuts.{dropped};
 ghost use Rattle.algebra.specs.Layout.{preorder};
 ghost use Rattle.algebra.specs.Score.{nodes};
+ghost use Rattle.nodes.specs.Scores.{part_at};
 
 use crate::piece::piece_node;
 use algebra::node::Node;
@@ -17,26 +18,36 @@ pub fn drop_into<K: Kind>(score: &Score<'_, K>, ticks: u32, out: &mut NodeList<'
     ensures items { out.new.items ≡ out.old.items ++ preorder (dropped K.Kind.model ticks score.now) }
     ensures room { out.new.room ≡ out.old.room }
 {
+    drop_part(score, 0, ticks, out);
+}
+
+// Puts what follows the first ticks of the part that begins at a node behind the nodes of a list.
+fn drop_part<K: Kind>(score: &Score<'_, K>, at: usize, ticks: u32, out: &mut NodeList<'_, K>)
+    requires inside { at < nodes score.now }
+    requires room { length out.old.items + nodes (dropped K.Kind.model ticks (part_at score.now at)) ≤ out.old.room }
+    ensures items { out.new.items ≡ out.old.items ++ preorder (dropped K.Kind.model ticks (part_at score.now at)) }
+    ensures room { out.new.room ≡ out.old.room }
+{
     if ticks == 0 {
-        return out.push_score(score);
+        return out.extend(score.nodes_at(at));
     }
-    match score.look() {
+    match score.look_at(at) {
         Look::Rest(duration) => out.push(Node::Rest(duration.saturating_sub(ticks))),
         Look::Primitive(primitive) => out.push(piece_node(primitive.tail(ticks))),
         Look::Pair(Join::Sequence, left, right) => {
-            let length = left.length();
+            let length = score.length_at(left);
             if length <= ticks {
-                drop_into(&right, ticks - length, out);
+                drop_part(score, right, ticks - length, out);
             } else {
                 out.push(Node::Sequence);
-                drop_into(&left, ticks, out);
-                out.push_score(&right);
+                drop_part(score, left, ticks, out);
+                out.extend(score.nodes_at(right));
             }
         }
         Look::Pair(Join::Parallel, left, right) => {
             out.push(Node::Parallel);
-            drop_into(&left, ticks, out);
-            drop_into(&right, ticks, out);
+            drop_part(score, left, ticks, out);
+            drop_part(score, right, ticks, out);
         }
     }
 }

@@ -6,7 +6,6 @@ ghost use Rattle.drawing.specs.Drawn.{entry_of, drawn_score};
 use kinds::kind::Kind;
 use nodes::score::Score;
 use normal::lines::primitive_of;
-use normal::meaning::Meaning;
 use normal::placed::PlacedList;
 use render::entry::Entry;
 use render::renderer::Renderer;
@@ -33,7 +32,8 @@ pub fn draw_score<K: Kind, R: Renderer>(score: &Score<'_, K>, renderer: &mut R)
     ensures picture { R.Renderer.picture_of renderer.new ≡ drawn_score (R.Renderer.blank (R.Renderer.settings_of renderer.old)) (R.Renderer.entered (R.Renderer.settings_of renderer.old)) K.Kind.model score.now }
     ensures spared { R.Renderer.spares renderer.old renderer.new }
 {
-    let meaning = Meaning::of(score);
-    renderer.start(meaning.length);
-    enter_placed(&meaning.placed, renderer);
+    let mut placed = PlacedList::new();
+    let length = placed.fill(score);
+    renderer.start(length);
+    enter_placed(&placed, renderer);
 }

@@ -10,7 +10,11 @@ use Rattle.algebra.specs.Limits.{Fits}
 use Rattle.nodes.specs.declared.span.Span.{Span}
 use Rattle.nodes.specs.declared.join.Join.{Join}
 use Rattle.nodes.specs.declared.join.Join.TheVariants as joins
+use Rattle.nodes.specs.declared.score.Look.{Look}
+use Rattle.nodes.specs.declared.score.Look.TheVariants as looks
 use Rattle.nodes.specs.Joins.{joined}
+use Rattle.nodes.specs.Scores.{ShowsAt}
+use Rattle.nodes.specs.Sights.{Seen}
 use Rattle.nodes.specs.Held.{Held}
 use Rattle.nodes.specs.Spans.{no_span, span_of, Spanned}
 use Rattle.nodes.specs.Standing.{standing_score, Limited, Stands, Tabled, Standing}
@@ -71,6 +75,10 @@ module _ (K : KindModel) {P : Type 0} (f : P → Numbers) (row : List (Node P)) 
   pub some_row : 0 < length row
   some_row = omega (arith, nodes_long, some_node (standing_score f row))
 
+  -- a node of the score is one of the row
+  pub node_within : {s : Score} → standing_score f row ≡ s → (k : ℕ) → k < nodes s → k < length row
+  node_within e k h = omega (arith, nodes_long, ap nodes e)
+
   pub limited_as : {s : Score} → standing_score f row ≡ s → Limited K s
   limited_as e = subst (Limited K) e t.stands.limited
 
@@ -84,6 +92,13 @@ module _ (K : KindModel) {P : Type 0} (f : P → Numbers) (row : List (Node P)) 
 
     pub span_nodes : (get_or spans k no_span).nodes ≡ nodes part
     span_nodes = nodes_listed K (view f row) spans t.spanned k within
+
+    pub span_length : (get_or spans k no_span).length ≡ score_length K part
+    span_length =
+        let xs = view f row in
+        let path = (at xs t.stands.whole k within).path in
+        ap (λ (s : Span). s.length) (t.spanned k (omega arith) within)
+        ∙ omega (arith, t.stands.limited.short, part_length K path, ap (score_length K) (begins xs t.stands.whole k within))
 
     pub part_inside : k + nodes part ≤ length row
     part_inside = omega (arith, ends_inside (view f row) t.stands.whole k within, length-map row (seen f))
@@ -143,3 +158,15 @@ second_part joins.Parallel a b = ap (score_at (preorder (parallel a b))) (sym (a
 pub pair_nodes : (j : Join) (a b : Score) → nodes (joined j a b) ≡ 1 + nodes a + nodes b
 pair_nodes joins.Sequence a b = refl
 pair_nodes joins.Parallel a b = refl
+
+-- what is seen at a node of a row is seen at that node of its score
+seen_at : {P : Type 0} (f : P → Numbers) (s : Score) (at : ℕ) (look : Look P ℕ) → Seen f (preorder s) at look → ShowsAt f s at look
+seen_at f s at (looks.Rest d) h = h
+seen_at f s at (looks.Primitive x) h = h
+seen_at f s at (looks.Pair joins.Sequence left right) h =
+    record { is = h.is; left_inside = omega (arith, h.ends, h.middle, h.right_some, length_preorder s); right_inside = omega (arith, h.ends, h.right_some, length_preorder s) }
+seen_at f s at (looks.Pair joins.Parallel left right) h =
+    record { is = h.is; left_inside = omega (arith, h.ends, h.middle, h.right_some, length_preorder s); right_inside = omega (arith, h.ends, h.right_some, length_preorder s) }
+
+pub shows_at : {P : Type 0} (f : P → Numbers) (xs : List (Node Numbers)) (s : Score) → xs ≡ preorder s → (at : ℕ) (look : Look P ℕ) → Seen f xs at look → ShowsAt f s at look
+shows_at f xs s e at look h = seen_at f s at look (subst (λ ys. Seen f ys at look) e h)

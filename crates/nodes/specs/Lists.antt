@@ -11,6 +11,7 @@ pub record Listed : Type 0 where
   pub items : List (Node Numbers)
   pub room : ℕ
 
+-- Such values as pairs, from which they can be had back.
 abbrev pub listed_code : Coded Listed
 listed_code = code_by (List (Node Numbers) × ℕ) (coded× (coded_list node_code) coded_ℕ) (λ l. (l.items, l.room)) (λ p. record { items = p.0; room = p.1 }) (λ _. refl)
 

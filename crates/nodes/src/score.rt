@@ -1,14 +1,15 @@
 // Scores that stand in rows of nodes, with the spans of their parts.
-ghost use Rattle.std.specs.Prelude.{◌≡◌, ◌+◌, ◌<◌, ◌≤◌};
-ghost use Rattle.algebra.specs.Layout.{view, preorder, score_at};
+ghost use Rattle.std.specs.Prelude.{◌≡◌, ◌+◌, ◌<◌, ◌≤◌, length};
+ghost use Rattle.algebra.specs.Layout.{view, preorder, score_of};
 ghost use Rattle.algebra.specs.Score.{nodes, score_length};
-ghost use Rattle.nodes.specs.Scores.{Shows};
-ghost use Rattle.nodes.specs.Standing.{Limited};
+ghost use Rattle.nodes.specs.Scores.{part_at, Shows, ShowsAt};
+ghost use Rattle.nodes.specs.Standing.{Stands, Limited};
 
 use crate::join::Join;
 use crate::rows::some_of;
 use crate::sight;
 use crate::span::Span;
+use crate::spans::fill_spans;
 use algebra::node::Node;
 use kinds::kind::Kind;
 use std::marker::Model;
@@ -45,6 +46,19 @@ pub enum Look<K, P> {
 }
 
 impl<'a, K: Kind> Score<'a, K> {
+    // The score that a row is, with the spans of its parts in a table that the caller lends.
+    pub fn of(nodes: &'a [Node<K>], spans: &'a mut [Span]) -> Score<'a, K>
+        requires stands { Stands K.Kind.model K.Kind.numbers_of nodes.now }
+        requires room { length nodes.now ≤ length spans.old }
+        ensures { result ≡ score_of (view K.Kind.numbers_of nodes.now) }
+    {
+        fill_spans(nodes, spans);
+        Score {
+            nodes,
+            spans: &spans[..nodes.len()],
+        }
+    }
+
     // The length in ticks.
     pub fn length(&self) -> u32
         ensures length { result ≡ score_length K.Kind.model self.now }
@@ -89,7 +103,7 @@ impl<'a, K: Kind> Score<'a, K> {
     // The score that begins at a node.
     pub fn part(&self, at: usize) -> Score<'a, K>
         requires { at < nodes self.now }
-        ensures part { result ≡ score_at (preorder self.now) at }
+        ensures part { result ≡ part_at self.now at }
         ensures inside { at + nodes result ≤ nodes self.now }
     {
         let spans = self.spans;
@@ -98,5 +112,30 @@ impl<'a, K: Kind> Score<'a, K> {
             nodes: some_of(self.nodes, at, count),
             spans: some_of(spans, at, count),
         }
+    }
+
+    // What the part is that begins at a node; of a pair, the nodes where its parts begin. A recursion goes over one score by these.
+    pub fn look_at(&self, at: usize) -> Look<K, usize>
+        requires { at < nodes self.now }
+        ensures { ShowsAt K.Kind.numbers_of self.now at result }
+    {
+        sight::look(self.nodes, self.spans, at)
+    }
+
+    // The length of the part that begins at a node.
+    pub fn length_at(&self, at: usize) -> u32
+        requires { at < nodes self.now }
+        ensures { result ≡ score_length K.Kind.model (part_at self.now at) }
+    {
+        let spans = self.spans;
+        spans[at].length
+    }
+
+    // The nodes of the part that begins at a node.
+    pub fn nodes_at(&self, at: usize) -> &'a [Node<K>]
+        requires { at < nodes self.now }
+        ensures { view K.Kind.numbers_of result.now ≡ preorder (part_at self.now at) }
+    {
+        some_of(self.nodes, at, self.spans[at].nodes as usize)
     }
 }

@@ -1,5 +1,5 @@
 -- Placed primitives of the parts of a score, and of a list.
-use Rattle.std.proofs.Common.{◌≡◌, ℕ, ◌+◌, ◌<◌, List, [], ◌∷◌, ◌++◌, map, length, get_or, refl, ap, ◌∙◌, subst, arith}
+use Rattle.std.proofs.Common.{◌≡◌, ℕ, ◌+◌, ◌<◌, List, [], ◌∷◌, ◌++◌, map, length, get_or, sym, refl, ap, ◌∙◌, subst, arith}
 use Rattle.std.proofs.ByRecursion.{All-get_or}
 use Rattle.std.proofs.lemmas.List.{length-map, map-append, get_or-map}
 use Rattle.algebra.specs.Kind.{KindModel, LegalNumbers}
@@ -29,9 +29,13 @@ module _ (K : KindModel) where
   pub length_from : (m : ℕ) (s : Score) → length (placed_from m s) ≡ primitives s
   length_from m s = length-map (placed K s) (later m) ∙ length_placed K s
 
-  pub from_sequence : (m : ℕ) (a b : Score) → placed_from m (sequence a b) ≡ placed_from m a ++ placed_from (m + score_length K a) b
-  from_sequence m a b =
+  sequence_from : (m : ℕ) (a b : Score) → placed_from m (sequence a b) ≡ placed_from m a ++ placed_from (m + score_length K a) b
+  sequence_from m a b =
       map-append (later m) (placed K a) (map (later (score_length K a)) (placed K b)) ∙ ap (λ ys. placed_from m a ++ ys) (later_later m (score_length K a) (placed K b))
+
+  -- of a sequence, those of the left part, and those of the right, which begins where the left ends
+  pub from_sequence : (m : ℕ) (a b : Score) {s : Score} → s ≡ sequence a b → {n : ℕ} → n ≡ score_length K a → placed_from m s ≡ placed_from m a ++ placed_from (m + n) b
+  from_sequence m a b is e = ap (placed_from m) is ∙ sequence_from m a b ∙ ap (λ k. placed_from m a ++ placed_from (m + k) b) (sym e)
 
 -- the numbers of a placed primitive in a list are legal where those of all are
 pub legal_at : (K : KindModel) (xs : List PlacedNumbers) (i : ℕ) (d : PlacedNumbers) → i < length xs → AllLegal K (all_placed xs) → LegalNumbers K (get_or xs i d).numbers

@@ -1,6 +1,7 @@
 // What a score means: a length, and placed primitives.
-ghost use Rattle.std.specs.Prelude.{◌≡◌, ◌+◌, ◌^◌, ◌<◌, ◌≤◌, ◌++◌, map, length};
-ghost use Rattle.algebra.specs.Score.{score_length, primitives, placed as placed_in, later};
+ghost use Rattle.std.specs.Prelude.{◌≡◌, ◌+◌, ◌^◌, ◌<◌, ◌≤◌, [], ◌++◌, map, length};
+ghost use Rattle.algebra.specs.Score.{nodes, score_length, primitives, placed as placed_in, later};
+ghost use Rattle.nodes.specs.Scores.{part_at};
 ghost use Rattle.nodes.specs.Standing.{Limited};
 
 use crate::placed::{PlacedList, PlacedNumbers};
@@ -24,32 +25,47 @@ impl<K: Kind> Meaning<K> {
         ensures count { length result.placed ≡ primitives score.now }
         ensures limited { Limited K.Kind.model score.now }
     {
-        let length = score.length();
         let mut placed = PlacedList::new();
-        place_into(score, 0, &mut placed);
+        let length = placed.fill(score);
         Meaning { length, placed }
     }
 }
 
-// Appends the placed primitives of a score, later by an onset.
-fn place_into<K: Kind>(score: &Score<'_, K>, onset: u32, list: &mut PlacedList<K>)
-    requires short { onset + score_length K.Kind.model score.now < 2 ^ 32 }
-    requires room { length list.old + primitives score.now ≤ MOST_PRIMITIVES }
-    ensures { list.new ≡ list.old ++ map (later onset) (placed_in K.Kind.model score.now) }
+impl<K: Kind> PlacedList<K> {
+    // Fills a list that has none with the placed primitives of a score, as they stand from left to right, and returns its length.
+    pub fn fill(&mut self, score: &Score<'_, K>) -> u32
+        requires { self.old ≡ [] }
+        ensures length { result ≡ score_length K.Kind.model score.now }
+        ensures placed { self.new ≡ placed_in K.Kind.model score.now }
+        ensures count { length self.new ≡ primitives score.now }
+        ensures limited { Limited K.Kind.model score.now }
+    {
+        let length = score.length();
+        place_part(score, 0, 0, self);
+        length
+    }
+}
+
+// Appends the placed primitives of the part that begins at a node, later by an onset.
+fn place_part<K: Kind>(score: &Score<'_, K>, at: usize, onset: u32, list: &mut PlacedList<K>)
+    requires inside { at < nodes score.now }
+    requires short { onset + score_length K.Kind.model (part_at score.now at) < 2 ^ 32 }
+    requires room { length list.old + primitives (part_at score.now at) ≤ MOST_PRIMITIVES }
+    ensures { list.new ≡ list.old ++ map (later onset) (placed_in K.Kind.model (part_at score.now at)) }
 {
-    match score.look() {
+    match score.look_at(at) {
         Look::Rest(_) => {}
         Look::Primitive(primitive) => list.push(PlacedNumbers {
             onset,
             numbers: primitive.numbers(),
         }),
         Look::Pair(Join::Sequence, left, right) => {
-            place_into(&left, onset, list);
-            place_into(&right, onset + left.length(), list);
+            place_part(score, left, onset, list);
+            place_part(score, right, onset + score.length_at(left), list);
         }
         Look::Pair(Join::Parallel, left, right) => {
-            place_into(&left, onset, list);
-            place_into(&right, onset, list);
+            place_part(score, left, onset, list);
+            place_part(score, right, onset, list);
         }
     }
 }

@@ -5,7 +5,7 @@ ghost use Rattle.algebra.specs.Normal.{normal};
 ghost use Rattle.algebra.specs.Score.{nodes};
 
 use crate::lines::write_lines;
-use crate::meaning::Meaning;
+use crate::placed::PlacedList;
 use kinds::kind::Kind;
 use nodes::list::NodeList;
 use nodes::score::Score;
@@ -16,6 +16,7 @@ pub fn normalise_into<K: Kind>(score: &Score<'_, K>, out: &mut NodeList<'_, K>)
     ensures items { out.new.items ≡ out.old.items ++ preorder (normal K.Kind.model score.now) }
     ensures room { out.new.room ≡ out.old.room }
 {
-    let meaning = Meaning::of(score);
-    write_lines(meaning.length, meaning.placed.items(), out);
+    let mut placed = PlacedList::new();
+    let length = placed.fill(score);
+    write_lines(length, placed.items(), out);
 }

@@ -22,10 +22,12 @@ impl<K: Kind> Partners<K> {
     pub fn of(list: &PlacedList<K>) -> Self
         ensures { Noted K.Kind.model list.now [] result.sorted result.spent }
     {
-        Partners {
-            sorted: SortedList::of(list),
+        let mut partners = Partners {
+            sorted: SortedList::new(),
             spent: [0; MOST_PRIMITIVES],
-        }
+        };
+        partners.sorted.fill(list);
+        partners
     }
 
     // Whether the next of some placed primitives has a partner, which is then spent.

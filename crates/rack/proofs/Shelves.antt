@@ -3,7 +3,7 @@ use Rattle.std.proofs.Common.{◌≡◌, ℕ, zero, suc, ◌+◌, ◌*◌, ◌/�
 use Rattle.std.specs.List.{range_with_len}
 use Rattle.std.proofs.lemmas.List.FromFn.{length-map-range_with_len, get_or-map-range_with_len}
 use Rattle.std.proofs.lemmas.Bool.{cases_lt}
-use Rattle.std.proofs.lemmas.List.{take-map, drop-map}
+use Rattle.std.proofs.lemmas.List.{take-map, drop-map, length-map}
 use Rattle.algebra.specs.declared.numbers.Numbers.{Numbers}
 use Rattle.algebra.specs.declared.node.Node.{Node}
 use Rattle.algebra.specs.Kind.{KindModel, LengthLaws}
@@ -12,6 +12,7 @@ use Rattle.algebra.specs.Layout.{seen, view, preorder, score_of}
 use Rattle.algebra.specs.Limits.{Fits, Holdable}
 use Rattle.nodes.specs.Standing.{standing_score}
 use Rattle.nodes.proofs.Lengths.{legal_row}
+use Rattle.nodes.proofs.Parts.{length_preorder}
 use Rattle.nodes.proofs.Shapes.{score_preorder}
 use Rattle.refusals.specs.declared.refusal.Refusal.TheVariants.{EmptyPlace, FullPlace}
 use Rattle.refusals.specs.declared.refusal.Refusal.{Refusal}
@@ -95,6 +96,10 @@ shelf_start f ns = all_none _ (λ p. ap (held_at (view f ns) p) (none_noted 8 p)
 -- the nodes of a place's segment that code lends
 pub lent_used : {P : Type 0} (f : P → Numbers) (ns : List (Node P)) (p n : ℕ) {row : List (Node P)} → row ≡ take n (drop (p * 1023) ns) → view f row ≡ used (view f ns) p n
 lent_used f ns p n e = ap (view f) e ∙ sym (take-map (seen f) n (drop (p * 1023) ns)) ∙ ap (take n) (sym (drop-map (seen f) (p * 1023) ns))
+
+-- the nodes of a score that a place has room for are no more than a place has
+pub few_nodes : {K : KindModel} {P : Type 0} (f : P → Numbers) (row : List (Node P)) (s : Score) → view f row ≡ preorder s → Fits K s → length row ≤ 1023
+few_nodes f row s e h = omega (arith, length-map row (seen f), ap length e, length_preorder s, h.few_nodes)
 
 -- checks that fail, whatever others say behind them
 pub all_first : (xs ys : List Check) (e : Refusal) → Err e ≡ all xs → Err e ≡ all (xs ++ ys)

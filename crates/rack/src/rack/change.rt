@@ -17,6 +17,7 @@ use building::making::change;
 use building::size::Size;
 use kinds::kind::Kind;
 use nodes::list::NodeList;
+use nodes::span::Span;
 use refusals::refusal::Refusal;
 
 impl<'a, K: Kind> Rack<'a, K> {
@@ -86,6 +87,7 @@ impl<'a, K: Kind> Rack<'a, K> {
         self.known(from)?;
         let held = self.held(from)?;
         self.vacant(to)?;
-        change(&held.measured().score(), kind, out)
+        let mut spans = [Span::default(); MOST_NODES];
+        change(&held.score(&mut spans), kind, out)
     }
 }

@@ -6,8 +6,10 @@ ghost use Rattle.rack.specs.Calls.{clear_answer};
 ghost use Rattle.rack.specs.Drawing.{drawn_over};
 
 use crate::rack::Rack;
+use algebra::limits::MOST_NODES;
 use drawing::draw::draw_score;
 use kinds::kind::Kind;
+use nodes::span::Span;
 use refusals::refusal::Refusal;
 use render::renderer::Renderer;
 
@@ -21,7 +23,8 @@ impl<'a, K: Kind> Rack<'a, K> {
     {
         self.known(place)?;
         let held = self.held(place)?;
-        draw_score(&held.measured().score(), renderer);
+        let mut spans = [Span::default(); MOST_NODES];
+        draw_score(&held.score(&mut spans), renderer);
         Ok(())
     }
 }

@@ -1,6 +1,6 @@
 // The places of a rack: what they hold, and what is put there.
-ghost use Rattle.std.specs.Prelude.{◌≡◌, ◌<◌, length, slice_set, Some, None, OnOk, IfOk};
-ghost use Rattle.algebra.specs.Score.{Score, score_length};
+ghost use Rattle.std.specs.Prelude.{◌≡◌, ◌<◌, ◌≤◌, length, slice_set, Some, None, OnOk, IfOk};
+ghost use Rattle.algebra.specs.Score.{Score as Term, score_length};
 ghost use Rattle.algebra.specs.Layout.{view, preorder};
 ghost use Rattle.algebra.specs.Limits.{Fits};
 ghost use Rattle.nodes.specs.Held.{Whole};
@@ -16,8 +16,9 @@ use algebra::node::Node;
 use building::size::Size;
 use kinds::kind::Kind;
 use nodes::measure::length_of;
-use nodes::measured::Measured;
 use nodes::rows::{some_of, write_over};
+use nodes::score::Score;
+use nodes::span::Span;
 use refusals::refusal::Refusal;
 
 // The nodes of a score that a place holds, with what is noted of it.
@@ -26,16 +27,18 @@ pub(crate) struct Held<'a, K: Kind> {
     pub nodes: &'a [Node<K>],
     pub noted: Place,
     ghost whole: { Whole (view K.Kind.numbers_of nodes.now) },
+    ghost few: { length nodes.now ≤ 1023 },
     ghost counts: { Counts noted (standing_score K.Kind.numbers_of nodes.now) },
     ghost fits: { Fits K.Kind.model (standing_score K.Kind.numbers_of nodes.now) },
 }
 
 impl<'a, K: Kind> Held<'a, K> {
-    // The score, measured. This goes over all its nodes, so it comes behind the checks that need none of them.
-    pub(crate) fn measured(&self) -> Measured<'a, K>
+    // The score, measured in a lent table. This goes over all its nodes, so it comes behind the checks that need none of them.
+    pub(crate) fn score<'b>(&'b self, spans: &'b mut [Span]) -> Score<'b, K>
+        requires { length self.now.nodes.now ≤ length spans.old }
         ensures { result ≡ standing_score K.Kind.numbers_of self.now.nodes.now }
     {
-        Measured::of(self.nodes)
+        Score::of(self.nodes, spans)
     }
 
     // The length of the score, where nothing else is asked of it.
@@ -91,8 +94,8 @@ impl<'a, K: Kind> Rack<'a, K> {
     // Puts a score of a size, which a place has room for, at a place of the rack.
     pub(crate) fn put(&mut self, to: u32, nodes: &[Node<K>], size: Size)
         requires known { to < length self.old }
-        requires ready { (s : Score) × Ready K.Kind.model (view K.Kind.numbers_of nodes.now) size s }
-        ensures { (s : Score) → view K.Kind.numbers_of nodes.now ≡ preorder s → self.new ≡ slice_set self.old to (Some s) }
+        requires ready { (s : Term) × Ready K.Kind.model (view K.Kind.numbers_of nodes.now) size s }
+        ensures { (s : Term) → view K.Kind.numbers_of nodes.now ≡ preorder s → self.new ≡ slice_set self.old to (Some s) }
     {
         write_over(self.nodes, to as usize * MOST_NODES, nodes);
         self.places[to as usize] = Some(size.into());

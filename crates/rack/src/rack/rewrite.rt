@@ -16,6 +16,7 @@ use building::size::Size;
 use building::step::step_named;
 use kinds::kind::Kind;
 use nodes::list::NodeList;
+use nodes::span::Span;
 use refusals::refusal::Refusal;
 use rewriting::step::Step;
 
@@ -64,6 +65,7 @@ impl<'a, K: Kind> Rack<'a, K> {
         if node >= held.noted.nodes {
             return Err(Refusal::NoSuchNode(held.noted.nodes));
         }
-        rewrite(&held.measured().score(), node, step, out)
+        let mut spans = [Span::default(); MOST_NODES];
+        rewrite(&held.score(&mut spans), node, step, out)
     }
 }

@@ -10,17 +10,17 @@ use Rattle.rack.proofs.rack.Rack.compare.Goals as goal
 pub returns-clause-same : goal.returns-clause-same
 returns-clause-same g c =
     let K = g.K.Kind.model in
-    let first = c.score.ensures.same ∙ c.measured.ensures ∙ sym (ap score_in c.in_ok-one.ensures.held) in
-    let second = c.score-2.ensures.same ∙ c.measured-2.ensures ∙ sym (ap score_in c.in_ok-other.ensures.held) in
-    same_exactly K (score_held c.args.self.now c.args.first) (score_held c.args.self.now c.args.second) c.compare.result (c.compare.ensures ∙ (λ i. said (compared K (first i) (second i))))
+    let first = sym (ap score_in c.in_ok-one.ensures.held) in
+    let second = sym (ap score_in c.in_ok-other.ensures.held) in
+    same_exactly K (score_held c.args.self.now c.args.first) (score_held c.args.self.now c.args.second) c.compare_held.result (c.compare_held.ensures ∙ (λ i. said (compared K (first i) (second i))))
 
 pub returns-clause-only : goal.returns-clause-only
 returns-clause-only g c =
     let K = g.K.Kind.model in
     let f = g.K.Kind.numbers_of in
     let laws = g.met.K.Kind.lawful in
-    let first = c.score.ensures.same ∙ c.measured.ensures ∙ sym (ap score_in c.in_ok-one.ensures.held) in
-    let second = c.score-2.ensures.same ∙ c.measured-2.ensures ∙ sym (ap score_in c.in_ok-other.ensures.held) in
-    only_answer K (score_held c.args.self.now c.args.first) (score_held c.args.self.now c.args.second) c.compare.result (c.compare.ensures ∙ (λ i. said (compared K (first i) (second i)))) laws.order
+    let first = sym (ap score_in c.in_ok-one.ensures.held) in
+    let second = sym (ap score_in c.in_ok-other.ensures.held) in
+    only_answer K (score_held c.args.self.now c.args.first) (score_held c.args.self.now c.args.second) c.compare_held.result (c.compare_held.ensures ∙ (λ i. said (compared K (first i) (second i)))) laws.order
     (row_holdable K laws.lengths f g.met.K.Kind.legal c.in_ok-one.one.nodes.now (ap score_in c.in_ok-one.ensures.held) c.in_ok-one.one.fits).legal
     (row_holdable K laws.lengths f g.met.K.Kind.legal c.in_ok-other.other.nodes.now (ap score_in c.in_ok-other.ensures.held) c.in_ok-other.other.fits).legal

@@ -5,7 +5,7 @@ use Rattle.nodes.specs.Standing.{standing_score}
 use Rattle.nodes.proofs.Shapes.{score_preorder}
 use Rattle.rack.specs.Places.{Counts}
 use Rattle.rack.specs.Shelves.{at}
-use Rattle.rack.proofs.Shelves.{segment_within, at_empty, at_full, holding_yes, holding_no, lent_used}
+use Rattle.rack.proofs.Shelves.{segment_within, at_empty, at_full, holding_yes, holding_no, lent_used, few_nodes}
 use Rattle.rack.proofs.rack.Rack.held.Goals as goal
 
 pub returns-in_default-clause-answer : goal.returns-in_default-clause-answer
@@ -42,4 +42,4 @@ invariant_of-result g c =
     let n = c.self.invariant.true p c.in-Some.noted (sym c.note_at.ensures ∙ c.in-Some.is) in
     let row = lent_used f c.self.inside.nodes.now p c.in-Some.noted.nodes c.some_of-nodes.ensures ∙ n.stands in
     let is : standing_score f c.some_of-nodes.result.now ≡ n.score = ap score_of row ∙ score_preorder n.score in
-    record { whole = row ∙ ap preorder (sym is); counts = subst (Counts c.in-Some.noted) (sym is) n.counts; fits = subst (Fits g.K.Kind.model) (sym is) n.fits }
+    record { whole = row ∙ ap preorder (sym is); few = few_nodes f c.some_of-nodes.result.now n.score row n.fits; counts = subst (Counts c.in-Some.noted) (sym is) n.counts; fits = subst (Fits g.K.Kind.model) (sym is) n.fits }

@@ -6,8 +6,8 @@ use Rattle.rack.proofs.NormalFiles.{bytes_decide}
 use Rattle.rack.proofs.Shelves.{length_shelf, row_holdable}
 use Rattle.rack.proofs.rack.Rack.write_normal.Goals as goal
 
-pub write_normal_from-requires : goal.write_normal_from-requires
-write_normal_from-requires g c = wide c.self.inside.nodes.now c.args.place (omega (arith, c.in_ok-known.ensures.within, ap length c.self.view_is, length_shelf g.K.Kind.numbers_of c.self.inside.nodes.now c.self.inside.places))
+pub write_normal_held-requires : goal.write_normal_held-requires
+write_normal_held-requires g c = wide c.self.inside.nodes.now c.args.place (omega (arith, c.in_ok-known.ensures.within, ap length c.self.view_is, length_shelf g.K.Kind.numbers_of c.self.inside.nodes.now c.self.inside.places))
 
 pub returns-clause-decides : goal.returns-clause-decides
 returns-clause-decides g c =
@@ -16,4 +16,4 @@ returns-clause-decides g c =
     let laws = g.met.K.Kind.lawful in
     let first = row_holdable K laws.lengths f g.met.K.Kind.legal c.in_ok-own.own.nodes.now (ap score_in c.in_ok-own.ensures.held) c.in_ok-own.own.fits in
     let second = row_holdable K laws.lengths f g.met.K.Kind.legal c.in_ok-other.other.nodes.now (ap score_in c.in_ok-other.ensures.held) c.in_ok-other.other.fits in
-    on_always c.write_normal_from.result (bytes_decide K laws _ _ first second)
+    on_always c.write_normal_held.result (bytes_decide K laws _ _ first second)

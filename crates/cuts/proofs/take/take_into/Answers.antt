@@ -1,0 +1,16 @@
+use Rattle.std.proofs.Common.{◌++◌, ap, ◌∙◌, arith}
+use Rattle.algebra.specs.Layout.{preorder}
+use Rattle.algebra.specs.Score.{nodes}
+use Rattle.algebra.specs.Cuts.{taken}
+use Rattle.nodes.proofs.Parts.{some_node}
+use Rattle.nodes.proofs.Shapes.{score_preorder}
+use Rattle.cuts.proofs.take.take_into.Goals as goal
+
+pub take_part-requires-clause-inside : goal.take_part-requires-clause-inside
+take_part-requires-clause-inside g c = omega (arith, some_node c.args.score.now)
+
+pub take_part-requires-clause-room : goal.take_part-requires-clause-room
+take_part-requires-clause-room g c = omega (arith, ap (λ s. nodes (taken g.K.Kind.model c.args.ticks s)) (score_preorder c.args.score.now), c.requires)
+
+pub returns-clause-items : goal.returns-clause-items
+returns-clause-items g c = c.take_part.ensures.items ∙ ap (λ s. c.args.out.now.items ++ preorder (taken g.K.Kind.model c.args.ticks s)) (score_preorder c.args.score.now)

@@ -1,5 +1,5 @@
 -- The first item of a file for which there is no room, or that the kind refuses.
-use Rattle.std.proofs.Common.{◌≡◌, ℕ, zero, suc, ◌+◌, ◌-◌, ◌≤◌, Bool, true, false, not, cond, ◌&&◌, eqb, List, [], ◌∷◌, length, take, map, filter, find, Some, None, refl, arith, slice_get}
+use Rattle.std.proofs.Common.{◌≡◌, ℕ, zero, suc, ◌+◌, ◌-◌, ◌≤◌, Bool, true, false, not, cond, ◌&&◌, eqb, List, [], ◌∷◌, length, take, map, filter, find, IsSome, Some, None, Option, refl, arith, rules, slice_get}
 use Rattle.std.specs.Option.{option_map, option_or}
 use Rattle.std.proofs.lemmas.Bool.{ne_eqb}
 use Rattle.std.proofs.lemmas.List.Sums.{sum_by-cons}
@@ -45,6 +45,26 @@ none_excess (suc n) m (i ∷ is) e = go (is_primitive i) m (rw (some n) at e) (s
     go false m e s h = let k = h m (rw less at e) in (omega arith, omega arith)
     go true zero e s h = absurd (cc)
     go true (suc m) e s h = let k = h m (rw (less n, less m, some m) at e) in (omega arith, omega arith)
+
+-- where there are no more than may come, there is room for all
+pub room_excess : (n m : ℕ) (is : List Item) → length is ≤ n → primitive_items is ≤ m → excess n m is ≡ None
+room_excess n m [] l p = refl
+room_excess zero m (i ∷ is) l p = absurd (omega arith)
+room_excess (suc n) m (i ∷ is) l p = rw (some n) (go (is_primitive i) m p (sum_by-cons (λ (i : Item). cond (is_primitive i) 1 0) i is) (λ m. room_excess n m is (omega arith)))
+  where
+    go : (b : Bool) (m : ℕ) → primitive_items (i ∷ is) ≤ m → primitive_items (i ∷ is) ≡ cond b 1 0 + primitive_items is
+        → ((m : ℕ) → primitive_items is ≤ m → excess n m is ≡ None) → cond (b && eqb m 0) (Some i.offset) (excess (suc n - 1) (cond b (m - 1) m) is) ≡ None
+    go false m p s h = rw less (h m (omega arith))
+    go true zero p s h = absurd (omega arith)
+    go true (suc m) p s h = rw (less n, less m, some m) (h m (omega arith))
+
+-- where there are more than may come, the first of them is found
+pub some_excess : (n m : ℕ) (is : List Item) → (length is ≤ n → primitive_items is ≤ m → ⊥) → IsSome (excess n m is)
+some_excess n m is over = go (excess n m is) (none_excess n m is)
+  where
+    go : (found : Option ℕ) → (found ≡ None → (length is ≤ n) × (primitive_items is ≤ m)) → IsSome found
+    go (Some o) h = search rules
+    go None h = let k = h refl in absurd (over k.0 k.1)
 
 -- the first item that the kind refuses
 abbrev pub is_illegal : KindModel → Item → Bool

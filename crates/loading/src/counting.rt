@@ -42,8 +42,10 @@ fn first_excess(items: &[Item]) -> Option<u32>
 pub fn count_primitives(items: &[Item]) -> Result<u32, Refusal>
     ensures { MatchResult result (Counted items.now) (RefusedAt (excess 1023 170 items.now) TooManyInFile) }
 {
-    match first_excess(items) {
-        Some(offset) => Err(Refusal::TooManyInFile(offset)),
-        None => Ok(primitives(items) as u32),
+    let count = primitives(items);
+    if items.len() <= MOST_NODES && count <= MOST_PRIMITIVES {
+        return Ok(count as u32);
     }
+    let offset = first_excess(items).unwrap();
+    Err(Refusal::TooManyInFile(offset))
 }

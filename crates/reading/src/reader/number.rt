@@ -11,6 +11,7 @@ use refusals::refusal::{Refusal, Section};
 
 impl<'a> Reader<'a> {
     // A number up to a limit, with its offset.
+    #[inline(always)]
     pub fn number(&mut self, limit: u32) -> Result<Figure, Refusal>
         ensures { MatchResult result (λ f. NumberTaken limit self.old self.new f) (λ e. Fault (Numeral limit) NoDigit self.old e) }
     {

@@ -66,7 +66,8 @@ impl<'a> Reader<'a> {
         ensures { DigitsTaken self.old self.new result }
     {
         let start = self.at;
-        self.at += run_length(self.rest(), usize::MAX, u8::is_ascii_digit);
+        let rest = self.rest();
+        self.at += run_length(rest, rest.len(), u8::is_ascii_digit);
         Word::Digits(self.since(start))
     }
 

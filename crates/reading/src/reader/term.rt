@@ -14,6 +14,7 @@ use refusals::refusal::Refusal;
 
 impl<'a> Reader<'a> {
     // A number with the comma after it.
+    #[inline(always)]
     fn field(&mut self) -> Result<u32, Refusal>
         ensures { MatchResult result (λ n. FieldTaken self.old self.new n) (λ e. Fault Field Any self.old e) }
     {
@@ -22,7 +23,8 @@ impl<'a> Reader<'a> {
         Ok(number.value)
     }
 
-    // The four numbers of a primitive.
+    // The four numbers of a primitive. It stands apart from `term`, which calls itself and then takes less stack.
+    #[inline(never)]
     fn primitive(&mut self) -> Result<Numbers, Refusal>
         ensures { MatchResult result (λ p. FieldsTaken self.old self.new p) (λ e. Fault Fields NoDigit self.old e) }
     {

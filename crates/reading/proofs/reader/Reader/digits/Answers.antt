@@ -1,4 +1,4 @@
-use Rattle.std.proofs.Common.{◌+◌, drop, refl, ◌∙◌, arith, rules}
+use Rattle.std.proofs.Common.{◌+◌, drop, refl, ◌∙◌, rules}
 use Rattle.std.specs.List.{between}
 use Rattle.reading.specs.Passing.{Opens, NoDigit}
 use Rattle.reading.proofs.Steps.{at_rest, within_rest, before_end, digits_passed, opens_at}
@@ -8,12 +8,13 @@ pub returns : goal.returns
 returns c =
     let text = c.args.self.now.text.now in
     let at = c.args.self.now.at in
-    let rest = c.rest.ensures in
+    let rest = c.rest-rest.ensures in
     let n = c.run_length.result in
     let run = c.run_length.ensures in
     let ends : Opens NoDigit (drop (at + n) text) =
     opens_at NoDigit text (at + n) (λ lt digit.
-    let no = run.ends (omega (arith, c.args.self.now.small)) (before_end text at _ rest n lt) in
+    let inner = before_end text at _ rest n lt in
+    let no = run.ends inner inner in
     let m = no.says.met in
     let e = no.shows ∙ at_rest text at _ rest n in
     search rules) in

@@ -60,7 +60,14 @@ impl FileBytes {
         requires { length self.old + length (decimal number) ≤ MOST_BYTES }
         ensures { self.new ≡ self.old ++ decimal number }
     {
-        self.extend(Buffer::new().format(number).as_bytes());
+        if number < 10 {
+            return self.push(b'0' + number as u8);
+        }
+        let mut digits = Buffer::new();
+        // digit by digit, since a call that copies a few bytes costs more
+        for digit in digits.format(number).as_bytes() {
+            self.push(*digit);
+        }
     }
 
     // Puts a line of a key and what it holds behind the others.

@@ -60,9 +60,6 @@ impl FileBytes {
         requires { length self.old + length (decimal number) ≤ MOST_BYTES }
         ensures { self.new ≡ self.old ++ decimal number }
     {
-        if number < 10 {
-            return self.push(b'0' + number as u8);
-        }
         let mut digits = Buffer::new();
         // digit by digit, since a call that copies a few bytes costs more
         for digit in digits.format(number).as_bytes() {

@@ -1,5 +1,5 @@
 -- Lists of nodes in lent room.
-use Rattle.std.specs.Prelude.{ℕ, ◌≤◌, List, length, take, refl}
+use Rattle.std.specs.Prelude.{◌≡◌, ℕ, ◌≤◌, List, length, take, refl}
 use Rattle.std.specs.Coded.{Coded, code_by, coded_list, coded_ℕ, coded×}
 use Rattle.algebra.specs.declared.numbers.Numbers.{Numbers}
 use Rattle.algebra.specs.declared.node.Node.{Node}
@@ -20,5 +20,10 @@ abbrev pub listed : {P : Type 0} → (P → Numbers) → List (Node P) → ℕ �
 listed f room n = record { items = view f (take n room); room = length room }
 
 -- The list is no longer than its room.
-abbrev pub Roomy : {X : Type 0} → List X → ℕ → Type 0
-Roomy room n = n ≤ length room
+abbrev pub HasRoom : {X : Type 0} → List X → ℕ → Type 0
+HasRoom room n = n ≤ length room
+
+-- There is room for 1,023, and the list is no longer.
+pub record Roomy (l : Listed) : Type 0 where
+  pub room_is : l.room ≡ 1023
+  pub within : length l.items ≤ 1023

@@ -5,6 +5,7 @@ pub mod join;
 pub mod list;
 pub mod measure;
 pub mod measured;
+pub mod roomy;
 pub mod rows;
 pub mod score;
 pub mod sight;

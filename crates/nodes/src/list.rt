@@ -18,7 +18,7 @@ pub struct NodeList<'a, K: Kind> {
 }
 
 impl<'a, K: Kind> Model for NodeList<'a, K> {
-    ghost use Rattle.nodes.specs.Lists.{Listed, listed_code, listed, Roomy};
+    ghost use Rattle.nodes.specs.Lists.{Listed, listed_code, listed, HasRoom};
 
     ghost Value = { Listed };
 
@@ -26,7 +26,7 @@ impl<'a, K: Kind> Model for NodeList<'a, K> {
 
     ghost view = { λ l. listed K.Kind.numbers_of l.room.now l.len };
 
-    ghost invariant = { λ l. Roomy l.room.now l.len };
+    ghost invariant = { λ l. HasRoom l.room.now l.len };
 }
 
 impl<'a, K: Kind> NodeList<'a, K> {

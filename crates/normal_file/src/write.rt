@@ -7,6 +7,7 @@ use algebra::limits::MOST_NODES;
 use algebra::node::Node;
 use kinds::kind::Kind;
 use nodes::list::NodeList;
+use nodes::roomy::RoomyList;
 use nodes::score::Score;
 use normal::lines::write_lines;
 use partners::after::list_after;
@@ -23,6 +24,7 @@ pub fn write_normal<K: Kind>(
     requires { length form.old.items + 1023 ≤ form.old.room }
     ensures answer { result ≡ written_answer (normal_bytes K.Kind.model score.now model.now) (length buffer.old) }
     ensures after { buffer.new ≡ written_over result (normal_bytes K.Kind.model score.now model.now) buffer.old }
+    ensures room { form.new.room ≡ form.old.room }
 {
     let meaning = list_after(score, model);
     let placed = meaning.placed.items();
@@ -44,6 +46,6 @@ pub fn write_normal_from<K: Kind>(
     ensures after { buffer.new ≡ written_over result (normal_bytes K.Kind.model score.now model.now) buffer.old }
 {
     let mut room = [Node::Rest(0); MOST_NODES];
-    let mut form = NodeList::over(&mut room);
-    write_normal(score, model, &mut form, buffer)
+    let mut form = RoomyList::over(&mut room);
+    write_normal(score, model, &mut form.list, buffer)
 }

@@ -6,3 +6,4 @@ pub mod Joining
 pub mod Room
 pub mod Comparing
 pub mod NormalFiles
+pub mod Making

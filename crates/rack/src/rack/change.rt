@@ -16,7 +16,7 @@ use building::change::Change;
 use building::making::change;
 use building::size::Size;
 use kinds::kind::Kind;
-use nodes::list::NodeList;
+use nodes::roomy::RoomyList;
 use nodes::span::Span;
 use refusals::refusal::Refusal;
 
@@ -64,7 +64,7 @@ impl<'a, K: Kind> Rack<'a, K> {
         self.vacant(to)?;
         let _ = &self.nodes;
         let mut room = [Node::Rest(0); MOST_NODES];
-        let mut nodes = NodeList::over(&mut room);
+        let mut nodes = RoomyList::over(&mut room);
         let size = self.change_held(kind, to, from, &mut nodes)?;
         self.put(to, nodes.as_slice(), size);
         Ok(())
@@ -76,18 +76,17 @@ impl<'a, K: Kind> Rack<'a, K> {
         kind: Change,
         to: u32,
         from: u32,
-        out: &mut NodeList<'_, K>,
+        out: &mut RoomyList<'_, K>,
     ) -> Result<Size, Refusal>
         requires known { to < length self.now }
-        requires none { out.old.items ≡ [] }
-        requires room { out.old.room ≡ 1023 }
+        requires none { out.old ≡ [] }
         ensures answer { held_check result ≡ make_answer K.Kind.model self.now to from (changed K.Kind.model kind (score_held self.now from)) }
-        ensures ready { IfOk result (λ size. Ready K.Kind.model out.new.items size (changed K.Kind.model kind (score_held self.now from))) }
+        ensures ready { IfOk result (λ size. Ready K.Kind.model out.new size (changed K.Kind.model kind (score_held self.now from))) }
     {
         self.known(from)?;
         let held = self.held(from)?;
         self.vacant(to)?;
         let mut spans = [Span::default(); MOST_NODES];
-        change(&held.score(&mut spans), kind, out)
+        change(&held.score(&mut spans), kind, &mut out.list)
     }
 }

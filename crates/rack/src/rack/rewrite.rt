@@ -15,7 +15,7 @@ use building::rewrite::rewrite;
 use building::size::Size;
 use building::step::step_named;
 use kinds::kind::Kind;
-use nodes::list::NodeList;
+use nodes::roomy::RoomyList;
 use nodes::span::Span;
 use refusals::refusal::Refusal;
 use rewriting::step::Step;
@@ -41,7 +41,7 @@ impl<'a, K: Kind> Rack<'a, K> {
         }
         let _ = &self.nodes;
         let mut room = [Node::Rest(0); MOST_NODES];
-        let mut nodes = NodeList::over(&mut room);
+        let mut nodes = RoomyList::over(&mut room);
         let size = self.rewrite_held(place, node, step, &mut nodes)?;
         self.put(place, nodes.as_slice(), size);
         Ok(())
@@ -53,19 +53,18 @@ impl<'a, K: Kind> Rack<'a, K> {
         place: u32,
         node: u32,
         step: Step,
-        out: &mut NodeList<'_, K>,
+        out: &mut RoomyList<'_, K>,
     ) -> Result<Size, Refusal>
         requires known { place < length self.now }
-        requires none { out.old.items ≡ [] }
-        requires room { out.old.room ≡ 1023 }
+        requires none { out.old ≡ [] }
         ensures answer { held_check result ≡ all (rewritable self.now place node ++ steppable K.Kind.model node (stepped_at K.Kind.model self.now place node (Some step))) }
-        ensures ready { IfOk result (λ size. Ready K.Kind.model out.new.items size (score_in (stepped_at K.Kind.model self.now place node (Some step)))) }
+        ensures ready { IfOk result (λ size. Ready K.Kind.model out.new size (score_in (stepped_at K.Kind.model self.now place node (Some step)))) }
     {
         let held = self.held(place)?;
         if node >= held.noted.nodes {
             return Err(Refusal::NoSuchNode(held.noted.nodes));
         }
         let mut spans = [Span::default(); MOST_NODES];
-        rewrite(&held.score(&mut spans), node, step, out)
+        rewrite(&held.score(&mut spans), node, step, &mut out.list)
     }
 }

@@ -48,4 +48,5 @@ returns g c =
     record {
       answer = c.write_told.ensures.answer ∙ ap (λ s. written_answer (file_bytes K s) (length c.args.buffer.now)) score;
       after = c.write_told.ensures.after ∙ ap (λ s. written_over c.write_told.result (file_bytes K s) c.args.buffer.now) score;
+      room = c.write_lines.ensures.room;
     }

@@ -1,5 +1,7 @@
 -- How large the result of a change is.
-use Rattle.std.proofs.Common.{◌≡◌, ◌+◌, ◌≤◌, ◌++◌, length, sym, refl, ap, ◌∙◌, subst, arith}
+use Rattle.std.proofs.Common.{◌≡◌, ℕ, ◌+◌, ◌≤◌, List, [], ◌++◌, length, sym, refl, ap, ◌∙◌, subst, arith}
+use Rattle.algebra.specs.declared.numbers.Numbers.{Numbers}
+use Rattle.algebra.specs.declared.node.Node.{Node}
 use Rattle.algebra.specs.Kind.{KindModel, KindLaws}
 use Rattle.algebra.specs.Score.{Score, Legal, nodes, primitives, score_length}
 use Rattle.algebra.specs.Layout.{preorder}
@@ -52,3 +54,16 @@ module _ (K : KindModel) (s : Score) where
   -- it is not more than one score may have
   pub put_small : (change : Change) {xs ys : Listed} → ChangePut change xs ys → length ys.items ≤ length xs.items + 1023
   put_small change {xs} p = omega (arith, put_long xs.items (preorder (changed K change s)) p.row, length_preorder (changed K change s), p.few)
+
+  -- what a change puts into an empty list, and its length
+  pub record ChangeMade (change : Change) (xs : List (Node Numbers)) (n : ℕ) : Type 0 where
+    pub nodes_are : xs ≡ preorder (changed K change s)
+    pub long : n ≡ score_length K (changed K change s)
+
+  pub change_made : KindLaws K → Legal K s → (change x : Change) {xs ys : List (Node Numbers)} {m n : ℕ} → change ≡ x → xs ≡ [] → ys ≡ xs ++ preorder (changed K x s) → m ≡ score_length K s
+      → n ≡ changed_length x m → ChangeMade change ys n
+  change_made laws legal change x is none put whole long =
+      record {
+        nodes_are = put ∙ ap (λ zs. zs ++ preorder (changed K x s)) none ∙ ap (λ y. preorder (changed K y s)) (sym is);
+        long = long ∙ (λ i. changed_length (sym is i) (whole i)) ∙ sym (length_changed laws legal change);
+      }

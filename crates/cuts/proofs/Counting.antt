@@ -1,5 +1,5 @@
 -- Counts of nodes.
-use Rattle.std.proofs.Common.{◌≡◌, ℕ, zero, suc, ◌+◌, ◌<◌, Bool, true, false, not, cond, eqb, List, [], ◌∷◌, ◌++◌, drop, sym, refl, ap, ◌∙◌, arith}
+use Rattle.std.proofs.Common.{◌≡◌, ℕ, zero, suc, ◌+◌, ◌*◌, ◌<◌, ◌≤◌, Bool, true, false, not, cond, eqb, List, [], ◌∷◌, ◌++◌, drop, sym, refl, ap, ◌∙◌, arith}
 use Rattle.std.specs.List.{count_by, range_with_len}
 use Rattle.std.proofs.lemmas.List.{append_assoc, append-nil, drop-drop, at_drop_all}
 use Rattle.std.proofs.lemmas.List.Sums.{sum_by-cons, sum_by-append}
@@ -8,8 +8,9 @@ use Rattle.algebra.specs.declared.node.Node.{Node}
 use Rattle.algebra.specs.declared.node.Node.TheVariants.{Rest, Primitive, Sequence, Parallel}
 use Rattle.algebra.specs.Kind.{KindModel}
 use Rattle.algebra.specs.Score.{Score, Score.rest, Score.primitive, Score.sequence, Score.parallel, nodes, primitives, score_length}
-use Rattle.algebra.specs.Cuts.{uneven}
+use Rattle.algebra.specs.Cuts.{reversed, uneven}
 use Rattle.algebra.specs.Layout.{seen, view, preorder, stack}
+use Rattle.algebra.proofs.CutSizes.{reverse_size}
 use Rattle.nodes.specs.Scores.{part_at}
 use Rattle.nodes.proofs.Parts.{length_preorder, stack_preorder, find, behind, from_place, score_place}
 use Rattle.cuts.specs.Padding.{uneven_pair}
@@ -95,3 +96,13 @@ module _ (K : KindModel) where
     uneven_counted =
         let alone : stack (preorder s) ≡ s ∷ [] = ap stack (sym (append-nil (preorder s))) ∙ stack_preorder s [] in
         omega (arith, counted_from (nodes s) 0 (omega arith), ap (uneven_all K) alone)
+
+uneven_most : (K : KindModel) (s : Score) → uneven K s ≤ nodes s
+uneven_most K (rest d) = omega arith
+uneven_most K (primitive p) = omega arith
+uneven_most K (sequence a b) = omega (arith, uneven_most K a, uneven_most K b)
+uneven_most K (parallel a b) = grind (arith, uneven_most K a, uneven_most K b)
+
+-- a reverse has at most three times as many nodes
+pub reversed_most : (K : KindModel) (s : Score) → nodes (reversed K s) ≤ 3 * nodes s
+reversed_most K s = omega (arith, (reverse_size K s).1, uneven_most K s)

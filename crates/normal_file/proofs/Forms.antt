@@ -12,7 +12,7 @@ use Rattle.algebra.proofs.Legal.{chain_legal}
 use Rattle.algebra.proofs.Sizes.{normal_size, normal_fits}
 use Rattle.grammar.specs.Loads.{file_bytes}
 use Rattle.nodes.specs.Held.{Whole}
-use Rattle.nodes.specs.Standing.{Limited}
+use Rattle.nodes.specs.Standing.{Limited, Stands}
 use Rattle.nodes.proofs.Shapes.{score_preorder}
 use Rattle.writing.proofs.Sizes.{length_bytes}
 use Rattle.normal_file.specs.Bytes.{normal_bytes}
@@ -31,9 +31,16 @@ module _ (K : KindModel) (s model : Score) where
     pub form_nodes : nodes form ≤ 1023
     form_nodes = omega (arith, ((normal_fits K s model).0 limited.few).1)
 
+    form_limited : Limited K form
+    form_limited = record {
+      legal = chain_legal K s form limited.legal (after_reached K s model);
+      small = form_nodes;
+      few = omega (arith, form_primitives, limited.few);
+      short = omega (arith, form_length, limited.short);
+    }
+
     form_bytes : KindLaws K → length (normal_bytes K s model) ≤ 16384
-    form_bytes laws =
-        length_bytes K laws form (chain_legal K s form limited.legal (after_reached K s model)) form_nodes (omega (arith, form_primitives, limited.few)) (omega (arith, form_length, limited.short))
+    form_bytes laws = length_bytes K laws form form_limited.legal form_limited.small form_limited.few (omega (arith, form_limited.short))
 
   -- it is a row that has just its nodes
   module _ {P : Type 0} (f : P → Numbers) (row : List (Node P)) (is : view f row ≡ preorder form) where
@@ -42,6 +49,9 @@ module _ (K : KindModel) (s model : Score) where
 
     pub row_whole : Whole (view f row)
     row_whole = is ∙ ap preorder (sym row_score)
+
+    pub row_stands : Limited K s → Stands K f row
+    row_stands limited = record { whole = row_whole; limited = subst (Limited K) (sym row_score) (form_limited limited) }
 
     pub row_small : KindLaws K → Limited K s → length (file_bytes K (score_of (view f row))) ≤ 16384
     row_small laws limited = subst (λ t. length (file_bytes K t) ≤ 16384) (sym row_score) (form_bytes limited laws)

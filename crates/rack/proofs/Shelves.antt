@@ -10,7 +10,7 @@ use Rattle.algebra.specs.Kind.{KindModel, LengthLaws}
 use Rattle.algebra.specs.Score.{Score, nodes}
 use Rattle.algebra.specs.Layout.{seen, view, preorder, score_of}
 use Rattle.algebra.specs.Limits.{Fits, Holdable}
-use Rattle.nodes.specs.Standing.{standing_score}
+use Rattle.nodes.specs.Standing.{standing_score, Limited}
 use Rattle.nodes.proofs.Lengths.{legal_row}
 use Rattle.nodes.proofs.Parts.{length_preorder}
 use Rattle.nodes.proofs.Shapes.{score_preorder}
@@ -106,6 +106,10 @@ pub all_first : (xs ys : List Check) (e : Refusal) → Err e ≡ all xs → Err 
 all_first [] ys e h = absurd (grind arith)
 all_first (Ok u ∷ xs) ys e h = all_first xs ys e h
 all_first (Err e' ∷ xs) ys e h = h
+
+-- a score that a place has room for may be held
+pub holdable : (K : KindModel) {s t : Score} → s ≡ t → Limited K t → Fits K t → Holdable K s
+holdable K e l f = subst (Holdable K) (sym e) (record { legal = l.legal; fits = f })
 
 -- the score of nodes of a kind that a place has room for may be held
 pub row_holdable : (K : KindModel) (laws : LengthLaws K) {P : Type 0} (f : P → Numbers) → ((x : P) → K.legal (f x) ≡ true) → (row : List (Node P)) → {s : Score} → s ≡ standing_score f row → Fits K (standing_score f row) → Holdable K s

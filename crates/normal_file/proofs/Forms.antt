@@ -50,11 +50,13 @@ module _ (K : KindModel) (s model : Score) where
     pub row_whole : Whole (view f row)
     row_whole = is ∙ ap preorder (sym row_score)
 
-    pub row_stands : Limited K s → Stands K f row
-    row_stands limited = record { whole = row_whole; limited = subst (Limited K) (sym row_score) (form_limited limited) }
-
     pub row_small : KindLaws K → Limited K s → length (file_bytes K (score_of (view f row))) ≤ 16384
     row_small laws limited = subst (λ t. length (file_bytes K t) ≤ 16384) (sym row_score) (form_bytes limited laws)
+
+  -- such a row stands
+  module _ (limited : Limited K s) {P : Type 0} (f : P → Numbers) (row : List (Node P)) (is : view f row ≡ preorder form) where
+    pub row_stands : Stands K f row
+    row_stands = record { whole = row_whole f row is; limited = subst (Limited K) (sym (row_score f row is)) (form_limited limited) }
 
 -- what stands in a row behind so many nodes
 pub row_behind : {P : Type 0} (f : P → Numbers) (row : List (Node P)) (xs ys : List (Node Numbers)) (n : ℕ) → view f row ≡ xs ++ ys → n ≡ length xs → view f (take (length row - n) (drop n row)) ≡ ys

@@ -1,5 +1,7 @@
 // The normal form of a score after a model, written as a file.
-ghost use Rattle.std.specs.Prelude.{◌≡◌, ◌+◌, ◌≤◌, length};
+ghost use Rattle.std.specs.Prelude.{◌≡◌, ◌+◌, ◌≤◌, ◌++◌, length};
+ghost use Rattle.algebra.specs.Layout.{preorder};
+ghost use Rattle.algebra.specs.Normal.{normal_after};
 ghost use Rattle.writing.specs.Writes.{written_answer, written_over};
 ghost use Rattle.normal_file.specs.Bytes.{normal_bytes};
 
@@ -14,7 +16,7 @@ use partners::after::list_after;
 use refusals::refusal::Refusal;
 use writing::file::write_told;
 
-// Writes the file of the normal form of a score after a model, by way of the room behind a list's nodes, and returns how many bytes it has. A buffer that is too short is refused and left as it is.
+// Writes the file of the normal form of a score after a model, and returns how many bytes it has. The form is put behind the nodes of a list. A buffer that is too short is refused and left as it is.
 pub fn write_normal<K: Kind>(
     score: &Score<'_, K>,
     model: &Score<'_, K>,
@@ -24,6 +26,7 @@ pub fn write_normal<K: Kind>(
     requires { length form.old.items + 1023 ≤ form.old.room }
     ensures answer { result ≡ written_answer (normal_bytes K.Kind.model score.now model.now) (length buffer.old) }
     ensures after { buffer.new ≡ written_over result (normal_bytes K.Kind.model score.now model.now) buffer.old }
+    ensures form { form.new.items ≡ form.old.items ++ preorder (normal_after K.Kind.model score.now model.now) }
     ensures room { form.new.room ≡ form.old.room }
 {
     let meaning = list_after(score, model);

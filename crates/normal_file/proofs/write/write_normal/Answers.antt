@@ -48,5 +48,6 @@ returns g c =
     record {
       answer = c.write_told.ensures.answer ∙ ap (λ s. written_answer (file_bytes K s) (length c.args.buffer.now)) score;
       after = c.write_told.ensures.after ∙ ap (λ s. written_over c.write_told.result (file_bytes K s) c.args.buffer.now) score;
+      form = c.write_lines.ensures.items ∙ ap (λ t. c.args.form.now.items ++ preorder t) lines;
       room = c.write_lines.ensures.room;
     }
